@@ -56,7 +56,8 @@ typedef struct {
 } mvt_span;
 
 /* A layer of version 2 has a name, an extent, features and its keys and values as the tile has them, also those that no
- * feature names. One of another version has its bytes, which are carried as they are. What a layer hasn't is 0. */
+ * feature names. One of another version has its bytes, which are carried as they are; keys and values within them stand in
+ * no list. What a layer hasn't is 0. */
 typedef struct {
     uint32_t version, extent;
     mvt_span name;      /* of texts */

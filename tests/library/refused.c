@@ -136,9 +136,45 @@ static int refuse(const task *of, const uint8_t *bytes, size_t len, unsigned lon
     return came;
 }
 
+/* The rows have one layer, of another version, with its bytes, and nothing else. */
+static int are_bytes_alone(const mvt_tile *tile, const uint8_t *payload, size_t len) {
+    const mvt_layer alone = {.version = 3, .bytes = {0, len}};
+    return tile->layer_count == 1 && memcmp(tile->layers, &alone, sizeof alone) == 0 && tile->feature_count == 0 &&
+           tile->key_count == 0 && tile->value_count == 0 && tile->tag_count == 0 && tile->part_count == 0 &&
+           tile->point_count == 0 && tile->integer_count == 0 && tile->text_len == len &&
+           memcmp(tile->texts, payload, len) == 0;
+}
+
+/* A layer of version 3 with 16 values, whose version stands neither first nor last: where a value finds no memory, the
+ * rows are the same. */
+static unsigned long refuse_values(void) {
+    uint8_t bytes[74] = {0x1a, 72, 0x0a, 1, 'a'};
+    size_t len = 5;
+    for (uint8_t i = 1; i <= 16; ++i) {
+        const uint8_t value[] = {0x22, 2, 0x28, i};
+        memcpy(bytes + len, value, sizeof value);
+        len += sizeof value;
+    }
+    memcpy(bytes + len, "\x78\x03\x1a\x01k", 5);
+    for (unsigned long number = 1;; ++number) {
+        mvt_tile tile;
+        mvt_fault fault;
+        count = 0, refused = number, live = 0;
+        const uint32_t status = mvt_read(bytes, sizeof bytes, &tile, &fault);
+        const int came = count >= number;
+        require(status == MVT_OK || (came && status == MVT_NO_MEMORY), "the wrong status", "mvt_read of version 3");
+        if (status == MVT_OK) {
+            require(are_bytes_alone(&tile, bytes + 2, sizeof bytes - 2), "other rows", "mvt_read of version 3");
+            mvt_tile_free(&tile);
+        }
+        require(live == 0, "a block is left", "mvt_read of version 3");
+        if (!came) return number;
+    }
+}
+
 int main(int argc, char **argv) {
     static uint8_t bytes[1 << 20];
-    unsigned long runs = 0;
+    unsigned long runs = refuse_values();
     for (int i = 1; i < argc; ++i) {
         FILE *file = fopen(argv[i], "rb");
         if (file == NULL) return 2;

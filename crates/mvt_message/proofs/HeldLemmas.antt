@@ -1,7 +1,9 @@
 -- Values and features that are counted, and that a visitor has.
-use Rattle.std.proofs.Common.{◌≡◌, ◌≢◌, ℕ, ◌+◌, ◌^◌, ◌<◌, List, [], ◌∷◌, ◌++◌, length, Option, None, sym, ap, subst, ◌∙◌, arith}
+use Rattle.std.proofs.Common.{◌≡◌, ◌≢◌, ℕ, ◌+◌, ◌^◌, ◌<◌, ◌==◌, List, [], ◌∷◌, ◌++◌, length, map, Option, None, sym, ap, subst, ◌∙◌, arith, append-nil, if◌then◌else◌}
 use Rattle.std.specs.Option.{option_map}
-use Rattle.std.proofs.lemmas.List.{length_push}
+use Rattle.std.proofs.lemmas.Bool.{eq-eqb, ne_eqb}
+use Rattle.std.proofs.lemmas.List.{length_push, map-append}
+use Rattle.std.proofs.lemmas.List.Elements.{filter-append}
 use Rattle.mvt_base.specs.Related.{AreRelated}
 use Rattle.mvt_base.specs.Reports.{Reports}
 use Rattle.mvt_base.specs.Rules.{each, first}
@@ -19,7 +21,7 @@ use Rattle.mvt_feature.specs.FeatureRules.{feature_fault}
 use Rattle.mvt_feature.specs.Values.{IsValueOf}
 use Rattle.mvt_feature.specs.ValueRules.{value_fault}
 use Rattle.mvt_message.specs.declared.numbers.layer.TheConstants.{FEATURES, VALUES}
-use Rattle.mvt_message.specs.LayerFields.{bytes_of}
+use Rattle.mvt_message.specs.LayerFields.{bytes_of, payloads_in}
 use Rattle.mvt_message.specs.Inner.{values_fault, features_fault, AreValuesHeld, AreFeaturesHeld}
 use Rattle.mvt_message.specs.Items.{HoldsValue, HoldsFeature}
 use Rattle.mvt_message.specs.ItemRules.{value_rules_of, feature_rules_of}
@@ -64,7 +66,21 @@ values_few {Has} {payload_at} {done} payload to_come so_far walk small =
     let few = selected_few payload to_come done VALUES walk small in
     omega (arith, so_far.counted, length-related HoldsValue (only VALUES done) so_far.values so_far.so_far.1)
 
-module _ {Has : List Feature → Type 0} {payload_at : ℕ} {keys : List (List ℕ)} {values : List Value} {done : List Entry} {count : ℕ}
+-- the payloads of features, with one field more
+payloads_skipped : (done : List Entry) (x : Entry) → x.number ≢ FEATURES → payloads_in (done ++ x ∷ []) ≡ payloads_in done
+payloads_skipped done x other =
+    ap (map (λ (y : Entry). bytes_of y.content))
+    (filter-append (λ (y : Entry). y.number == FEATURES) done (x ∷ [])
+    ∙ ap (λ b. only FEATURES done ++ (if b then x ∷ [] else [])) (ne_eqb x.number FEATURES other) ∙ append-nil (only FEATURES done))
+
+payloads_more : (done : List Entry) (x : Entry) → x.number ≡ FEATURES → payloads_in (done ++ x ∷ []) ≡ payloads_in done ++ bytes_of x.content ∷ []
+payloads_more done x is =
+    ap (map (λ (y : Entry). bytes_of y.content))
+    (filter-append (λ (y : Entry). y.number == FEATURES) done (x ∷ [])
+    ∙ ap (λ b. only FEATURES done ++ (if b then x ∷ [] else [])) (eq-eqb x.number FEATURES is))
+    ∙ map-append (λ (y : Entry). bytes_of y.content) (only FEATURES done) (x ∷ [])
+
+module _ {Has : List (List ℕ) → List Feature → Type 0} {payload_at : ℕ} {keys : List (List ℕ)} {values : List Value} {done : List Entry} {count : ℕ}
     (x : Entry) (so_far : AreFeaturesHeld Has payload_at keys values done count) where
   pub feature_skipped : x.number ≢ FEATURES → AreFeaturesHeld Has payload_at keys values (done ++ x ∷ []) count
   feature_skipped other = record {
@@ -72,7 +88,7 @@ module _ {Has : List Feature → Type 0} {payload_at : ℕ} {keys : List (List �
     so_far = so_far_skip FEATURES (feature_rules_of payload_at keys values) (HoldsFeature keys values) done
         so_far.features x so_far.so_far other;
     counted = so_far.counted;
-    has = so_far.has;
+    has = subst (λ payloads. Has payloads so_far.features) (sym (payloads_skipped done x other)) so_far.has;
   }
 
   pub features_few : (payload : List ℕ) (to_come : Parts) → Walk payload to_come done → length payload < 2 ^ 32 → count < 2 ^ 32
@@ -92,9 +108,10 @@ module _ {Has : List Feature → Type 0} {payload_at : ℕ} {keys : List (List �
       selected_stops FEATURES (feature_rules_of payload_at keys values) e done x more is so_far.so_far.0
       (subst (Reports (fault_of e)) reported reported_here)
 
-  pub feature_held : (New : List Feature → Type 0) (feature : Feature) → x.number ≡ FEATURES
+  pub feature_held : (New : List (List ℕ) → List Feature → Type 0) (feature : Feature) → x.number ≡ FEATURES
       → IsFeatureOf (bytes_of x.content) keys values feature
-      → feature_fault (bytes_of x.content) (payload_at + x.body) keys values ≡ None → New (so_far.features ++ feature ∷ [])
+      → feature_fault (bytes_of x.content) (payload_at + x.body) keys values ≡ None
+      → New (payloads_in done ++ bytes_of x.content ∷ []) (so_far.features ++ feature ∷ [])
       → AreFeaturesHeld New payload_at keys values (done ++ x ∷ []) (count + 1)
   feature_held New feature is holds clean has =
       let earlier = only FEATURES done in
@@ -104,11 +121,11 @@ module _ {Has : List Feature → Type 0} {payload_at : ℕ} {keys : List (List �
         so_far = so_far_take FEATURES (feature_rules_of payload_at keys values) (HoldsFeature keys values) done so_far.features x feature
             so_far.so_far is none holds;
         counted = omega (arith, length_push so_far.features feature, so_far.counted);
-        has = has;
+        has = subst (λ payloads. New payloads (so_far.features ++ feature ∷ [])) (sym (payloads_more done x is)) has;
       }
 
 -- when all are counted, the fields to come hold none
-pub features_end : {Has : List Feature → Type 0} {payload_at : ℕ} {keys : List (List ℕ)} {values : List Value} {payload : List ℕ}
+pub features_end : {Has : List (List ℕ) → List Feature → Type 0} {payload_at : ℕ} {keys : List (List ℕ)} {values : List Value} {payload : List ℕ}
     {to_come : Parts}
     {done : List Entry} {count features : ℕ} → Walk payload to_come done → AreFeaturesHeld Has payload_at keys values done count
     → count ≡ features
@@ -126,5 +143,5 @@ features_end {Has} {payload_at} {keys} {values} {payload} {to_come} {done} walk 
           × AreRelated (HoldsFeature keys values) xs so_far.features)
           (sym same) so_far.so_far;
       counted = so_far.counted;
-      has = so_far.has;
+      has = subst (λ xs. Has (map (λ (x : Entry). bytes_of x.content) xs) so_far.features) (sym same) so_far.has;
     }

@@ -1,27 +1,27 @@
 -- The item that a visit tells.
 use Rattle.std.proofs.Common.{◌≡◌, ℕ, List, sym, subst, ◌∙◌}
-use Rattle.mvt_attrs.specs.declared.value.Value.{Value}
+use Rattle.mvt_wire.specs.Split.{split}
 use Rattle.mvt_feature.specs.declared.feature.Feature.{Feature}
 use Rattle.mvt_message.specs.declared.item.Item.{Item as AnItem}
 use Rattle.mvt_message.specs.declared.item.Item.TheVariants.{Layer, Foreign}
 use Rattle.mvt_message.specs.declared.item.Layer.{Layer as ALayer}
 use Rattle.mvt_message.specs.declared.visiting.Visited.{Visited}
 use Rattle.mvt_message.specs.Items.{IsItem}
-use Rattle.mvt_message.specs.Visiting.{HasLayer, IsVisited}
+use Rattle.mvt_message.specs.Visiting.{HasLayer, IsVisited, OfFeatures}
 
-module _ {V : Type 0} (HasItems : V → Type 0) (HasFeatures : List (List ℕ) → List Value → V → List Feature → Type 0)
-    (visitor : V) (reported : Visited) (P : AnItem → Type 0) where
+module _ {V : Type 0} (HasGiven : V → Type 0) (HasFeatures : OfFeatures V) (payload : List ℕ) (visitor : V) (reported : Visited)
+    (P : AnItem → Type 0) where
   -- of a layer
-  pub layer_visited : ((number : ℕ) (content : List ℕ) → IsVisited HasItems HasFeatures visitor reported (Foreign number content) → ⊥)
-      → (item : AnItem) → IsVisited HasItems HasFeatures visitor reported item → P item
-      → (layer : ALayer) × HasLayer HasFeatures visitor reported layer × P (Layer layer)
+  pub layer_visited : ((number : ℕ) (content : List ℕ) → IsVisited HasGiven HasFeatures payload visitor reported (Foreign number content) → ⊥)
+      → (item : AnItem) → IsVisited HasGiven HasFeatures payload visitor reported item → P item
+      → (layer : ALayer) × HasLayer HasFeatures (split payload).fields visitor reported layer × P (Layer layer)
   layer_visited other (Layer layer) is p = (layer, is, p)
   layer_visited other (Foreign number content) is p = absurd (other number content is)
 
   -- of a foreign item
-  pub foreign_visited : ((layer : ALayer) → IsVisited HasItems HasFeatures visitor reported (Layer layer) → ⊥)
-      → (item : AnItem) → IsVisited HasItems HasFeatures visitor reported item → P item
-      → (number : ℕ) × (content : List ℕ) × IsVisited HasItems HasFeatures visitor reported (Foreign number content)
+  pub foreign_visited : ((layer : ALayer) → IsVisited HasGiven HasFeatures payload visitor reported (Layer layer) → ⊥)
+      → (item : AnItem) → IsVisited HasGiven HasFeatures payload visitor reported item → P item
+      → (number : ℕ) × (content : List ℕ) × IsVisited HasGiven HasFeatures payload visitor reported (Foreign number content)
       × P (Foreign number content)
   foreign_visited other (Layer layer) is p = absurd (other layer is)
   foreign_visited other (Foreign number content) is p = (number, content, is, p)

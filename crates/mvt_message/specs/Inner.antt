@@ -23,7 +23,7 @@ use Rattle.mvt_message.specs.declared.layer_fields.LayerFields.{LayerFields}
 use Rattle.mvt_message.specs.declared.layer_header.LayerHeader.{LayerHeader}
 use Rattle.mvt_message.specs.ItemRules.{version_rules, layer_field_rules, value_rules_of, feature_rules_of, layer_table}
 use Rattle.mvt_message.specs.Items.{HoldsValue, HoldsFeature}
-use Rattle.mvt_message.specs.LayerFields.{layer_forms, bytes_of, version_in, name_in, extent_in, keys_in}
+use Rattle.mvt_message.specs.LayerFields.{layer_forms, bytes_of, version_in, name_in, extent_in, keys_in, payloads_in}
 
 -- the parts of an item's fault, row by row
 abbrev pub rest_fault : List ℕ → ℕ → Option MessageFault
@@ -117,13 +117,13 @@ IsBroken payload_at fields (Field error) = versions_fault payload_at fields ≡ 
     → Reports (fault_of error) (forms_fault payload_at fields)
 IsBroken payload_at fields (AValue error) = Reports (fault_of error) (values_fault payload_at fields)
 
--- features that are counted, and that a visitor has
-pub record AreFeaturesHeld (Has : List Feature → Type 0) (payload_at : ℕ) (keys : List (List ℕ)) (values : List Value)
+-- features that are counted, and that a visitor has, with their payloads
+pub record AreFeaturesHeld (Has : List (List ℕ) → List Feature → Type 0) (payload_at : ℕ) (keys : List (List ℕ)) (values : List Value)
     (done : List Entry) (count : ℕ) : Type 0 where
   pub features : List Feature
   pub so_far : AreFeaturesSoFar payload_at keys values done features
   pub counted : count ≡ length features
-  pub has : Has features
+  pub has : Has (payloads_in done) features
 
 -- an error that isn't want of memory
 abbrev pub IsFault : MessageError → Type 0

@@ -45,6 +45,10 @@ extent_in fields = unwrap_or (number_in (last_only EXTENT fields)) 4096
 abbrev pub keys_in : List Entry → List (List ℕ)
 keys_in fields = map (λ (x : Entry). bytes_of x.content) (only KEYS fields)
 
+-- the payloads of the features of a layer, in their order
+abbrev pub payloads_in : List Entry → List (List ℕ)
+payloads_in fields = map (λ (x : Entry). bytes_of x.content) (only FEATURES fields)
+
 -- the values of a layer, in their order
 abbrev pub values_in : List Entry → List Value
 values_in fields = flat_map (λ (x : Entry). option_to_list (value_in (bytes_of x.content))) (only VALUES fields)

@@ -10,9 +10,9 @@ ghost use Rattle.mvt_wire.specs.Split.{split};
 ghost use Rattle.mvt_feature.specs.declared.feature.Feature.{Feature as AFeature};
 ghost use Rattle.mvt_feature.specs.Faults.{MessageFault, fault_of, in_feature as the_in_feature};
 ghost use Rattle.mvt_feature.specs.Selection.{only};
-ghost use Rattle.mvt_message.specs.declared.item.Item.{Item};
 ghost use Rattle.mvt_message.specs.declared.numbers.layer.TheConstants.{FEATURES};
 ghost use Rattle.mvt_message.specs.Items.{HoldsFeature};
+ghost use Rattle.mvt_message.specs.LayerFields.{payloads_in};
 ghost use Rattle.mvt_message.specs.Inner.{features_fault, AreFeaturesHeld};
 
 use crate::numbers::layer;
@@ -39,19 +39,20 @@ pub(crate) fn visit_features<V: LayerVisitor>(
     requires fits { payload_at + length payload.now < 2 ^ 64 }
     requires whole { (split payload.now).rest ≡ [] }
     requires features { features ≡ length (only FEATURES (split payload.now).fields) }
-    requires held { (items : List Item) × (held : List Value) × (length held ≡ values)
-        × V.has_features items keys.now held visitor.old [] }
-    ensures ok { (items : List Item) (held : List Value) → length held ≡ values
-        → V.has_features items keys.now held visitor.old []
+    requires held { (given : V.Given) × (held : List Value) × (length held ≡ values)
+        × V.has_features given keys.now held visitor.old [] [] }
+    ensures ok { (given : V.Given) (held : List Value) → length held ≡ values
+        → V.has_features given keys.now held visitor.old [] []
         → OnOk result (features_fault payload_at keys.now held (split payload.now).fields ≡ None) }
-    ensures features { (items : List Item) (held : List Value) → length held ≡ values
-        → V.has_features items keys.now held visitor.old []
+    ensures features { (given : V.Given) (held : List Value) → length held ≡ values
+        → V.has_features given keys.now held visitor.old [] []
         → OnOk result ((features : List AFeature)
         × AreRelated (HoldsFeature keys.now held)
         (only FEATURES (split payload.now).fields) features
-        × V.has_features items keys.now held visitor.new features) }
-    ensures err { (items : List Item) (held : List Value) → length held ≡ values
-        → V.has_features items keys.now held visitor.old []
+        × V.has_features given keys.now held visitor.new
+        (payloads_in (split payload.now).fields) features) }
+    ensures err { (given : V.Given) (held : List Value) → length held ≡ values
+        → V.has_features given keys.now held visitor.old [] []
         → IfErr result (λ error. Reports (fault_of error)
         (features_fault payload_at keys.now held (split payload.now).fields)) }
 {
@@ -96,15 +97,15 @@ fn visit_field<V: LayerVisitor>(
     requires few { count < 2 ^ 32 }
     requires body { payload_at + (field.now.body + bytes_size
         (content_of field.now.payload)) < 2 ^ 64 }
-    ensures ok { (items : List Item) (held : List Value) (done : List Entry) → length held ≡ values
-        → AreFeaturesHeld (V.has_features items keys.old held visitor.old) payload_at keys.old held
+    ensures ok { (given : V.Given) (held : List Value) (done : List Entry) → length held ≡ values
+        → AreFeaturesHeld (V.has_features given keys.old held visitor.old) payload_at keys.old held
         done count
         → IfOk result (AreFeaturesHeld
-        (V.has_features items keys.old held visitor.new) payload_at keys.old held
+        (V.has_features given keys.old held visitor.new) payload_at keys.old held
         (done ++ entry_of field.now ∷ [])) }
-    ensures err { (items : List Item) (held : List Value) (done more : List Entry)
+    ensures err { (given : V.Given) (held : List Value) (done more : List Entry)
         → length held ≡ values
-        → AreFeaturesHeld (V.has_features items keys.old held visitor.old) payload_at keys.old held
+        → AreFeaturesHeld (V.has_features given keys.old held visitor.old) payload_at keys.old held
         done count
         → IfErr result (λ error. Reports (fault_of error)
         (features_fault payload_at keys.old held ((done ++ entry_of field.now ∷ []) ++ more))) }

@@ -7,7 +7,6 @@ ghost use Rattle.mvt_wire.specs.Field.{Entry, entry_of, content_of};
 ghost use Rattle.mvt_wire.specs.Fields.{bytes_size};
 ghost use Rattle.mvt_wire.specs.Split.{split};
 ghost use Rattle.mvt_feature.specs.Faults.{fault_of};
-ghost use Rattle.mvt_message.specs.declared.item.Item.{Item};
 ghost use Rattle.mvt_message.specs.Inner.{versions_fault, values_fault, layer_fault, IsLayerFields, IsBroken};
 
 use crate::layer_header::LayerHeader;
@@ -42,15 +41,15 @@ pub(crate) fn read_layer_fields<'a, V: LayerVisitor>(
 ) -> Result<LayerFields<'a>, LayerFault>
     requires small { length payload.now < 2 ^ 32 }
     requires fits { payload_at + length payload.now < 2 ^ 64 }
-    requires start { (items : List Item) × V.has_values items visitor.old [] }
+    requires start { (given : V.Given) × V.has_values given visitor.old [] }
     ensures whole { OnOk result ((split payload.now).rest ≡ []) }
-    ensures front { (items : List Item) → V.has_values items visitor.old []
-        → IfOk result (IsLayerFields (V.has_values items visitor.new) payload_at
+    ensures front { (given : V.Given) → V.has_values given visitor.old []
+        → IfOk result (IsLayerFields (V.has_values given visitor.new) payload_at
         (split payload.now).fields) }
     ensures broken { (split payload.now).rest ≡ []
         → IfErr result (IsBroken payload_at (split payload.now).fields) }
-    ensures kept { (items : List Item) → V.has_values items visitor.old []
-        → V.has_items items visitor.old → V.has_items items visitor.new }
+    ensures kept { (given : V.Given) → V.has_values given visitor.old []
+        → V.has_given given visitor.old → V.has_given given visitor.new }
 {
     let mut front = LayerFields {
         header: LayerHeader::new(alloc),
@@ -80,16 +79,16 @@ impl<'a> LayerFields<'a> {
         requires at { payload_at + field.now.at < 2 ^ 64 }
         requires body { payload_at + (field.now.body + bytes_size
             (content_of field.now.payload)) < 2 ^ 64 }
-        ensures ok { (items : List Item) (done : List Entry)
-            → IsLayerFields (V.has_values items visitor.old) payload_at done self.old
-            → OnOk result (IsLayerFields (V.has_values items visitor.new) payload_at
+        ensures ok { (given : V.Given) (done : List Entry)
+            → IsLayerFields (V.has_values given visitor.old) payload_at done self.old
+            → OnOk result (IsLayerFields (V.has_values given visitor.new) payload_at
             (done ++ entry_of field.now ∷ []) self.new) }
-        ensures broken { (items : List Item) (done more : List Entry)
-            → IsLayerFields (V.has_values items visitor.old) payload_at done self.old
+        ensures broken { (given : V.Given) (done more : List Entry)
+            → IsLayerFields (V.has_values given visitor.old) payload_at done self.old
             → IfErr result (IsBroken payload_at ((done ++ entry_of field.now ∷ []) ++ more)) }
-        ensures kept { (items : List Item) (held : List Value)
-            → V.has_values items visitor.old held
-            → V.has_items items visitor.old → V.has_items items visitor.new }
+        ensures kept { (given : V.Given) (held : List Value)
+            → V.has_values given visitor.old held
+            → V.has_given given visitor.old → V.has_given given visitor.new }
     {
         let at = payload_at + field.at as u64;
         match self.header.take(alloc, field, at) {

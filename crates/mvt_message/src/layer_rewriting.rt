@@ -168,15 +168,18 @@ struct LayerRewriter<V: RewriteVisitor> {
 }
 
 impl<V: RewriteVisitor> LayerVisitor for LayerRewriter<V> {
-    ghost use Rattle.std.specs.Prelude.{[]};
+    ghost use Rattle.std.specs.Prelude.{List, []};
+    ghost use Rattle.mvt_message.specs.declared.item.Item.{Item};
     ghost use Rattle.mvt_message.specs.Rewriting.{HasGathered, HasWritten};
 
-    ghost has_items = { λ items r. V.has_features items r.visitor [] [] };
+    ghost Given = { List Item };
+
+    ghost has_given = { λ items r. V.has_features items r.visitor [] [] };
 
     ghost has_values = { λ items r values. HasGathered r.writer values
         × V.has_features items r.visitor [] [] };
 
-    ghost has_features = { λ items keys values r features. HasWritten keys values r.writer features
+    ghost has_features = { λ items keys values r _ features. HasWritten keys values r.writer features
         × V.has_features items r.visitor features r.writer.features.items };
 
     fn visit_value(

@@ -102,12 +102,14 @@ impl LayerKeeper {
 impl LayerVisitor for LayerKeeper {
     ghost use Rattle.std.specs.Prelude.{◌≡◌, []};
 
-    ghost has_items = { λ _ kept. Unit {0} };
+    ghost Given = { Unit {0} };
+
+    ghost has_given = { λ _ kept. Unit {0} };
 
     ghost has_values = { λ _ kept values. (kept.values.items ≡ values)
         × (kept.features.items ≡ []) };
 
-    ghost has_features = { λ _ keys values kept features. (kept.values.items ≡ values)
+    ghost has_features = { λ _ keys values kept _ features. (kept.values.items ≡ values)
         × (kept.features.items ≡ features) };
 
     fn visit_value(
@@ -146,11 +148,13 @@ impl LayerVisitor for LayerKeeper {
 struct LayerJudge;
 
 impl LayerVisitor for LayerJudge {
-    ghost has_items = { λ _ _. Unit {0} };
+    ghost Given = { Unit {0} };
+
+    ghost has_given = { λ _ _. Unit {0} };
 
     ghost has_values = { λ _ _ _. Unit {0} };
 
-    ghost has_features = { λ _ _ _ _ _. Unit {0} };
+    ghost has_features = { λ _ _ _ _ _ _. Unit {0} };
 
     fn visit_value(
         &mut self,

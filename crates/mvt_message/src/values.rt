@@ -5,7 +5,6 @@ ghost use Rattle.mvt_attrs.specs.declared.value.Value.{Value};
 ghost use Rattle.mvt_wire.specs.Field.{Entry, entry_of, content_of};
 ghost use Rattle.mvt_wire.specs.Fields.{bytes_size};
 ghost use Rattle.mvt_feature.specs.Faults.{fault_of};
-ghost use Rattle.mvt_message.specs.declared.item.Item.{Item};
 ghost use Rattle.mvt_message.specs.Inner.{values_fault, AreValuesHeld};
 
 use crate::numbers::layer;
@@ -29,16 +28,16 @@ pub(crate) fn take_value<V: LayerVisitor>(
     requires at { payload_at + field.now.at < 2 ^ 64 }
     requires body { payload_at + (field.now.body + bytes_size
         (content_of field.now.payload)) < 2 ^ 64 }
-    ensures ok { (items : List Item) (done : List Entry)
-        → AreValuesHeld (V.has_values items visitor.old) payload_at done count
-        → IfOk result (AreValuesHeld (V.has_values items visitor.new) payload_at
+    ensures ok { (given : V.Given) (done : List Entry)
+        → AreValuesHeld (V.has_values given visitor.old) payload_at done count
+        → IfOk result (AreValuesHeld (V.has_values given visitor.new) payload_at
         (done ++ entry_of field.now ∷ [])) }
-    ensures err { (items : List Item) (done more : List Entry)
-        → AreValuesHeld (V.has_values items visitor.old) payload_at done count
+    ensures err { (given : V.Given) (done more : List Entry)
+        → AreValuesHeld (V.has_values given visitor.old) payload_at done count
         → IfErr result (λ error. Reports (fault_of error)
         (values_fault payload_at ((done ++ entry_of field.now ∷ []) ++ more))) }
-    ensures kept { (items : List Item) (held : List Value) → V.has_values items visitor.old held
-        → V.has_items items visitor.old → V.has_items items visitor.new }
+    ensures kept { (given : V.Given) (held : List Value) → V.has_values given visitor.old held
+        → V.has_given given visitor.old → V.has_given given visitor.new }
 {
     if field.number != layer::VALUES {
         return Ok(count);

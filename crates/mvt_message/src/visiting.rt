@@ -31,14 +31,18 @@ use std::alloc::{AllocError, Global};
 /// What is told the parts of a layer, each kind in the layer's order: its values, then its keys,
 /// then its features. It judges a value or a feature while it takes it.
 pub trait LayerVisitor: Drop {
-    // What it has of the items before this one, whatever it took of this one's values.
-    ghost has_items: { List Item → Self → Type 0 };
+    // What it was given beside the layer.
+    ghost Given: { Type 0 };
+
+    // What it has of that, whatever it took of this layer's values.
+    ghost has_given: { Given → Self → Type 0 };
 
     // And of this layer's values so far.
-    ghost has_values: { List Item → Self → List Value → Type 0 };
+    ghost has_values: { Given → Self → List Value → Type 0 };
 
-    // And of the features so far, in a layer with these keys and values.
-    ghost has_features: { List Item → List (List ℕ) → List Value → Self → List AFeature → Type 0 };
+    // And of the features so far and their payloads, in a layer with these keys and values.
+    ghost has_features: { Given → List (List ℕ) → List Value → Self → List (List ℕ)
+        → List AFeature → Type 0 };
 
     /// Takes the value of a payload. The payload's first byte and the tag of its field stand at
     /// these places.
@@ -55,13 +59,13 @@ pub trait LayerVisitor: Drop {
     ) -> Result<(), MessageError>
         requires { payload_at + length payload.now < 2 ^ 64 }
         ensures ok { OnOk result (value_fault payload.now payload_at tag_at ≡ None) }
-        ensures value { (items : List Item) (values : List Value) → has_values items self.old values
+        ensures value { (given : Given) (values : List Value) → has_values given self.old values
             → OnOk result
             ((value : Value) × IsValueOf payload.now value
-            × has_values items self.new (values ++ value ∷ [])) }
+            × has_values given self.new (values ++ value ∷ [])) }
         // Also after an error: then it may have more of this layer's values.
-        ensures kept { (items : List Item) (values : List Value) → has_values items self.old values
-            → has_items items self.new }
+        ensures kept { (given : Given) (values : List Value) → has_values given self.old values
+            → has_given given self.new }
         ensures err { IfErr result (λ error. Reports (fault_of error)
             (value_fault payload.now payload_at tag_at)) };
 
@@ -76,8 +80,8 @@ pub trait LayerVisitor: Drop {
         keys: &[Text],
         features: usize,
     ) -> Result<(), AllocError>
-        ensures { (items : List Item) (values : List Value) → has_values items self.old values
-            → OnOk result (has_features items keys.now values self.new []) };
+        ensures { (given : Given) (values : List Value) → has_values given self.old values
+            → OnOk result (has_features given keys.now values self.new [] []) };
 
     /// Takes the feature of a payload, in a layer with these keys and this number of values.
     ///
@@ -94,18 +98,22 @@ pub trait LayerVisitor: Drop {
         scratch: &mut Scratch,
     ) -> Result<(), MessageError>
         requires { payload_at + length payload.now < 2 ^ 64 }
-        ensures ok { (items : List Item) (held : List Value) (features : List AFeature)
+        ensures ok { (given : Given) (held : List Value) (payloads : List (List ℕ))
+            (features : List AFeature)
             → length held ≡ values
-            → has_features items keys.old held self.old features
+            → has_features given keys.old held self.old payloads features
             → OnOk result (feature_fault payload.now payload_at keys.old held ≡ None) }
-        ensures feature { (items : List Item) (held : List Value) (features : List AFeature)
+        ensures feature { (given : Given) (held : List Value) (payloads : List (List ℕ))
+            (features : List AFeature)
             → length held ≡ values
-            → has_features items keys.old held self.old features → OnOk result ((feature : AFeature)
+            → has_features given keys.old held self.old payloads features → OnOk result ((feature : AFeature)
             × IsFeatureOf payload.now keys.old held feature
-            × has_features items keys.old held self.new (features ++ feature ∷ [])) }
-        ensures err { (items : List Item) (held : List Value) (features : List AFeature)
+            × has_features given keys.old held self.new
+            (payloads ++ payload.now ∷ []) (features ++ feature ∷ [])) }
+        ensures err { (given : Given) (held : List Value) (payloads : List (List ℕ))
+            (features : List AFeature)
             → length held ≡ values
-            → has_features items keys.old held self.old features → IfErr result
+            → has_features given keys.old held self.old payloads features → IfErr result
             (λ error. Reports (fault_of error)
             (feature_fault payload.now payload_at keys.old held)) }
         ensures same { keys.new ≡ keys.old };
@@ -134,12 +142,12 @@ pub fn visit_layer<'a, V: LayerVisitor>(
 ) -> Result<Visited<'a>, MessageError>
     requires small { length payload.now ≤ LIMIT }
     requires fits { payload_at + length payload.now < 2 ^ 64 }
-    requires start { (items : List Item) × V.has_values items visitor.old [] }
+    requires start { (given : V.Given) × V.has_values given visitor.old [] }
     ensures ok { OnOk result (item_fault payload.now payload_at tag_at ≡ None) }
-    ensures item { (items : List Item) → V.has_values items visitor.old []
-        → V.has_items items visitor.old
+    ensures item { (given : V.Given) → V.has_values given visitor.old []
+        → V.has_given given visitor.old
         → IfOk result (λ visited. (item : Item) × IsItem payload.now item × ValidItem item
-        × IsVisited (V.has_items items) (V.has_features items) visitor.new visited item) }
+        × IsVisited (V.has_given given) (V.has_features given) payload.now visitor.new visited item) }
     ensures fault { IfErr result (λ error. Reports (fault_of error)
         (item_fault payload.now payload_at tag_at)) }
 {
@@ -175,12 +183,12 @@ pub fn visit_version_2<'a, V: LayerVisitor>(
 ) -> Result<Visited<'a>, MessageError>
     requires small { length payload.now ≤ LIMIT }
     requires fits { payload_at + length payload.now < 2 ^ 64 }
-    requires start { (items : List Item) × V.has_values items visitor.old [] }
+    requires start { (given : V.Given) × V.has_values given visitor.old [] }
     ensures ok { OnOk result (item_fault payload.now payload_at tag_at ≡ None) }
-    ensures item { (items : List Item) → V.has_values items visitor.old []
-        → V.has_items items visitor.old
+    ensures item { (given : V.Given) → V.has_values given visitor.old []
+        → V.has_given given visitor.old
         → IfOk result (λ visited. (item : Item) × IsItem payload.now item × ValidItem item
-        × IsVisited (V.has_items items) (V.has_features items) visitor.new visited item) }
+        × IsVisited (V.has_given given) (V.has_features given) payload.now visitor.new visited item) }
     ensures fault { IfErr result (λ error. Reports (fault_of error)
         (item_fault payload.now payload_at tag_at)) }
 {
@@ -236,15 +244,15 @@ fn visit_parts<'a, V: LayerVisitor>(
     requires small { length payload.now ≤ LIMIT }
     requires fits { payload_at + length payload.now < 2 ^ 64 }
     requires whole { (split payload.now).rest ≡ [] }
-    requires front { (items : List Item)
-        × IsLayerFields (V.has_values items visitor.old) payload_at (split payload.now).fields
+    requires front { (given : V.Given)
+        × IsLayerFields (V.has_values given visitor.old) payload_at (split payload.now).fields
         front }
     ensures ok { OnOk result (layer_fault payload_at tag_at (split payload.now).fields ≡ None) }
-    ensures layer { (items : List Item)
-        → IsLayerFields (V.has_values items visitor.old) payload_at (split payload.now).fields
+    ensures layer { (given : V.Given)
+        → IsLayerFields (V.has_values given visitor.old) payload_at (split payload.now).fields
         front.entry → IfOk result (λ visited. (layer : ALayer)
         × IsLayer (split payload.now).fields layer
-        × HasLayer (V.has_features items) visitor.new visited layer) }
+        × HasLayer (V.has_features given) (split payload.now).fields visitor.new visited layer) }
     ensures fault { IfErr result (λ error. Reports (fault_of error)
         (layer_fault payload_at tag_at (split payload.now).fields)) }
 {

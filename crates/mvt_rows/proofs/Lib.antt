@@ -8,5 +8,6 @@ mod OneFaultLemmas
 mod RowLemmas
 mod GrowthLemmas
 mod TableLemmas
+mod ReadTableLemmas
 mod ReadLemmas
 mod VisitLemmas

@@ -1,5 +1,5 @@
 -- The rows of an item as its values, its keys and its features come, and as it ends.
-use Rattle.std.proofs.Common.{◌≡◌, ◌≢◌, ℕ, ◌+◌, ◌-◌, List, [], ◌∷◌, ◌++◌, length, Some, refl, sym, ap, ◌∙◌, subst, arith, append-nil, append_assoc, length-append}
+use Rattle.std.proofs.Common.{◌≡◌, ◌≢◌, ℕ, ◌+◌, ◌-◌, List, [], ◌∷◌, ◌++◌, length, Some, refl, sym, ap, ap₂, ◌∙◌, subst, arith, append-nil, append_assoc, length-append}
 use Rattle.std.specs.Prelude.{IsUtf8}
 use Rattle.std.specs.List.{fold, AllByRecursion}
 use Rattle.std.specs.Option.{option_and_then}
@@ -8,6 +8,7 @@ use Rattle.mvt_base.proofs.ListLemmas.{related-append}
 use Rattle.mvt_attrs.specs.declared.value.Attribute.{Attribute}
 use Rattle.mvt_attrs.specs.declared.value.Value.{Value}
 use Rattle.mvt_attrs.specs.Tags.{Resolved}
+use Rattle.mvt_wire.specs.Split.{split}
 use Rattle.mvt_geometry.specs.declared.shape.Geometry.{Geometry}
 use Rattle.mvt_geometry.specs.Shape.{kind_of}
 use Rattle.mvt_feature.specs.declared.feature.Feature.{Feature}
@@ -19,7 +20,7 @@ use Rattle.mvt_message.specs.declared.item.Layer.{Layer as ALayer}
 use Rattle.mvt_message.specs.declared.visiting.Visited.{Visited}
 use Rattle.mvt_message.specs.Items.{IsItem as IsItemOf, names_in}
 use Rattle.mvt_message.specs.ValidItems.{ValidItem, ValidLayer}
-use Rattle.mvt_message.specs.Visiting.{HasLayer, IsVisited}
+use Rattle.mvt_message.specs.Visiting.{HasLayer, IsVisited, OfFeatures}
 use Rattle.mvt_rows.specs.declared.places.Places.{Places}
 use Rattle.mvt_rows.specs.Tables.{Table, behind, feature_row, foreign_row, open_row, with_feature_row, with_foreign, with_geometry, with_key, with_layer_row, with_value}
 use Rattle.mvt_rows.specs.TileRows.{each, part_of, text_of, value_of, IsFeature, IsItem, IsLayer}
@@ -203,47 +204,41 @@ module _ (t : Table) (open_at : Places) (items : List Item) where
       ((other, refl, part_after t.texts content (length content) refl), tt)
 
 -- what an item ends with
-pub layer_ends : (payload : List ℕ) (t : Table) (open_at : Places) (items : List Item) (name text : List ℕ) (extent : ℕ) (layer : ALayer)
-    (keys : List (List ℕ)) (values : List Value) → IsItemOf payload (Layer layer) → ValidItem (Layer layer) → name ≡ layer.name
+pub layer_ends : (t : Table) (open_at : Places) (items : List Item) (name text : List ℕ) (extent : ℕ) (layer : ALayer)
+    (keys : List (List ℕ)) (values : List Value) → ValidItem (Layer layer) → name ≡ layer.name
     → extent ≡ layer.extent → text ≡ name → AreLayerRows t open_at items keys values layer.features
-    → (item : Item) × IsItemOf payload item × ValidItem item × (names_in item ≡ text ∷ [])
-    × AreItemRows (with_layer_row t name extent open_at) (items ++ item ∷ [])
+    → (names_in (Layer layer) ≡ text ∷ []) × AreItemRows (with_layer_row t name extent open_at) (items ++ Layer layer ∷ [])
 unfolding ValidItem ValidLayer
-layer_ends payload t open_at items name text extent layer keys values is valid name_is extent_is text_is are = (
-  Layer layer,
-  is,
-  valid,
+layer_ends t open_at items name text extent layer keys values valid name_is extent_is text_is are = (
   ap (λ n. n ∷ []) (sym (text_is ∙ name_is)),
   layer_visited t open_at items keys values layer name extent (subst IsUtf8 (sym name_is) valid.0) name_is extent_is are,
 )
 
 pub foreign_ends : (payload : List ℕ) (t : Table) (items : List Item) (version number : ℕ) (content : List ℕ)
     → IsItemOf payload (Foreign number content) → ValidItem (Foreign number content) → version ≡ number → AreItemRows t items
-    → (item : Item) × IsItemOf payload item × ValidItem item × (names_in item ≡ [])
-    × AreItemRows (with_foreign t version payload) (items ++ item ∷ [])
+    → AreItemRows (with_foreign t version payload) (items ++ Foreign number content ∷ [])
+    × (with_foreign t version payload ≡ with_foreign t number content)
 unfolding ValidItem IsItemOf
 foreign_ends payload t items version number content is valid version_is are = (
-  Foreign number content,
-  is,
-  valid,
-  refl,
   subst (λ v. AreItemRows (with_foreign t v payload) (items ++ Foreign number content ∷ [])) (sym version_is)
       (subst (λ c. AreItemRows (with_foreign t number payload) (items ++ Foreign number c ∷ [])) (sym is.3.2)
-      (foreign_visited t (record { features = 0; keys = 0; values = 0; parts = 0; integers = 0 }) items number payload valid.4 are)),
+      (foreign_visited t (record { features = 0; keys = 0; values = 0; parts = 0; integers = 0; texts = 0 }) items number payload valid.4
+      are)),
+  ap₂ (with_foreign t) version_is (sym is.3.2),
 )
 
 -- whether a layer was visited, or a foreign item
-module _ {V : Type 0} (HasItems : V → Type 0) (HasFeatures : List (List ℕ) → List Value → V → List Feature → Type 0)
-    (visitor : V) (reported : Visited) (P : Item → Type 0) where
-  pub was_layer : ((number : ℕ) (content : List ℕ) → IsVisited HasItems HasFeatures visitor reported (Foreign number content) → ⊥)
-      → (item : Item) → IsVisited HasItems HasFeatures visitor reported item → P item
-      → (layer : ALayer) × HasLayer HasFeatures visitor reported layer × P (Layer layer)
+module _ {V : Type 0} (HasGiven : V → Type 0) (HasFeatures : OfFeatures V) (payload : List ℕ) (visitor : V) (reported : Visited)
+    (P : Item → Type 0) where
+  pub was_layer : ((number : ℕ) (content : List ℕ) → IsVisited HasGiven HasFeatures payload visitor reported (Foreign number content) → ⊥)
+      → (item : Item) → IsVisited HasGiven HasFeatures payload visitor reported item → P item
+      → (layer : ALayer) × HasLayer HasFeatures (split payload).fields visitor reported layer × P (Layer layer)
   was_layer other (Layer layer) is p = (layer, is, p)
   was_layer other (Foreign number content) is p = absurd (other number content is)
 
-  pub was_foreign : ((layer : ALayer) → IsVisited HasItems HasFeatures visitor reported (Layer layer) → ⊥)
-      → (item : Item) → IsVisited HasItems HasFeatures visitor reported item → P item
-      → (number : ℕ) × (content : List ℕ) × IsVisited HasItems HasFeatures visitor reported (Foreign number content)
+  pub was_foreign : ((layer : ALayer) → IsVisited HasGiven HasFeatures payload visitor reported (Layer layer) → ⊥)
+      → (item : Item) → IsVisited HasGiven HasFeatures payload visitor reported item → P item
+      → (number : ℕ) × (content : List ℕ) × IsVisited HasGiven HasFeatures payload visitor reported (Foreign number content)
       × P (Foreign number content)
   was_foreign other (Layer layer) is p = absurd (other layer is)
   was_foreign other (Foreign number content) is p = (number, content, is, p)

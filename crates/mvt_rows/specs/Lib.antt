@@ -1,6 +1,7 @@
 pub mod Tables
 pub mod Lent
 pub mod TileRows
+pub mod ReadTables
 pub mod Drawing
 pub mod Written
 pub mod Writing

@@ -1,6 +1,6 @@
 -- A tile as flat rows. Each row names the parts that belong to it by where they stand in the list of their kind; parts are
 -- appended in the order of the tile.
-use Rattle.std.specs.Prelude.{ℕ, ◌+◌, ◌*◌, ◌-◌, Bool, List, [], ◌∷◌, ◌++◌, length, map, unwrap_or, is_some, if◌then◌else◌}
+use Rattle.std.specs.Prelude.{ℕ, ◌+◌, ◌*◌, ◌-◌, Bool, List, [], ◌∷◌, ◌++◌, length, map, take, unwrap_or, is_some, if◌then◌else◌}
 use Rattle.std.specs.Int.{w64, cast_unsigned}
 use Rattle.std.specs.List.{fold}
 use Rattle.mvt_attrs.specs.declared.value.Value.{Value}
@@ -147,3 +147,7 @@ foreign_row t version count = record {
 abbrev pub with_foreign : Table → ℕ → List ℕ → Table
 with_foreign t version content =
     record t { layers = t.layers ++ foreign_row t version (length content) ∷ []; texts = t.texts ++ content }
+
+-- a table without what stands behind these places of values and texts
+abbrev pub without_values : Table → Places → Table
+without_values t open_at = record t { values = take open_at.values t.values; texts = take open_at.texts t.texts }

@@ -1,5 +1,6 @@
 -- The rows of a tile as they are made, item by item.
 use Rattle.std.specs.Prelude.{◌≡◌, ℕ, List, ◌++◌, length, Some}
+use Rattle.std.specs.List.{fold}
 use Rattle.mvt_base.specs.Related.{AreRelated}
 use Rattle.mvt_attrs.specs.declared.value.Value.{Value}
 use Rattle.mvt_feature.specs.declared.feature.Feature.{Feature}
@@ -7,7 +8,8 @@ use Rattle.mvt_message.specs.declared.item.Item.{Item}
 use Rattle.mvt_rows.specs.declared.rows.Span.{Span}
 use Rattle.mvt_rows.specs.declared.rows.ValueRow.{ValueRow}
 use Rattle.mvt_rows.specs.declared.places.Places.{Places}
-use Rattle.mvt_rows.specs.Tables.{Table}
+use Rattle.mvt_rows.specs.ReadTables.{AreSameRows, places_of, with_features, with_items}
+use Rattle.mvt_rows.specs.Tables.{Table, no_rows, with_key, with_value}
 use Rattle.mvt_rows.specs.TileRows.{text_of, value_of, IsFeature, IsItem}
 
 -- the rows of layers are these items
@@ -35,3 +37,18 @@ pub record AreLayerRows (t : Table) (open_at : Places) (items : List Item) (keys
   pub keys_are : AreRows (IsKey t) t.keys open_at.keys keys
   pub values_are : AreRows (IsValue t) t.values open_at.values values
   pub features_are : AreRows (IsFeature t keys values) t.features open_at.features features
+
+-- the rows are those that are read of these payloads, which are these items
+pub record HasRead (t : Table) (payloads : List (List ℕ)) (items : List Item) : Type 0 where
+  pub even : length payloads ≡ length items
+  pub rows : AreSameRows t (with_items no_rows payloads items)
+
+-- and since the table was the first one, those of a layer's values, and of its keys and its features too
+abbrev pub HasReadValues : Table → Table → Places → List Value → Type 0
+HasReadValues before t open_at values = (open_at ≡ places_of before) × (t ≡ fold with_value before values)
+
+pub record HasReadFeatures (before t : Table) (open_at : Places) (keys : List (List ℕ)) (values : List Value)
+    (payloads : List (List ℕ)) (features : List Feature) : Type 0 where
+  pub opened : open_at ≡ places_of before
+  pub even : length payloads ≡ length features
+  pub rows : AreSameRows t (with_features (fold with_key (fold with_value before values) keys) payloads features)

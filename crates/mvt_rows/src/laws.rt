@@ -3,8 +3,9 @@ ghost use Rattle.std.specs.Prelude.{◌≡◌, ℕ, List};
 ghost use Rattle.mvt_tile_value.specs.declared.tile.Tile.{Tile};
 ghost use Rattle.mvt_rows.specs.declared.rows_cause.RowsFault.{RowsFault};
 ghost use Rattle.mvt_rows.specs.Reading.{IsRead, IsRewritten, IsTooLarge};
+ghost use Rattle.mvt_rows.specs.ReadTables.{AreSameRows};
 ghost use Rattle.mvt_rows.specs.RowsFaults.{IsFaultOf};
-ghost use Rattle.mvt_rows.specs.Tables.{Table};
+ghost use Rattle.mvt_rows.specs.Tables.{Table, table_size};
 ghost use Rattle.mvt_rows.specs.TileRows.{IsTileOf};
 ghost use Rattle.mvt_rows.specs.Written.{IsNoTile, IsTooLargeOfRows, IsWritten};
 
@@ -12,6 +13,18 @@ ghost use Rattle.mvt_rows.specs.Written.{IsNoTile, IsTooLargeOfRows, IsWritten};
 pub fn rows_are_one_tile()
     ensures { (table : Table) (tile other : Tile) → IsTileOf table tile → IsTileOf table other
         → tile ≡ other }
+{}
+
+/// Bytes are read as one table, but for which of equal entries a tag names.
+pub fn read_rows_are_one_table()
+    ensures { (input : List ℕ) (table other : Table) → IsRead input table → IsRead input other
+        → AreSameRows table other }
+{}
+
+/// The same rows have as many bytes.
+pub fn same_rows_size()
+    ensures { (table other : Table) → AreSameRows table other
+        → table_size table ≡ table_size other }
 {}
 
 /// Rows that were read can be written, and are written as the canonical bytes of the tile that was

@@ -1,6 +1,6 @@
 //! Where the rows of a layer, or those of a feature, begin.
 
-/// How many rows a table has of each kind that a layer or a feature names.
+/// How many entries the lists have that a layer or a feature names.
 #[derive(Clone, Copy, Debug)]
 pub(crate) struct Places {
     pub(crate) features: usize,
@@ -8,4 +8,5 @@ pub(crate) struct Places {
     pub(crate) values: usize,
     pub(crate) parts: usize,
     pub(crate) integers: usize,
+    pub(crate) texts: usize,
 }

@@ -1,10 +1,11 @@
 //! The lists of a tile's rows, as they grow.
-ghost use Rattle.std.specs.Prelude.{◌≡◌, ℕ, IsUtf8, OnOk, OnErr, length, nat_le};
+ghost use Rattle.std.specs.Prelude.{◌≡◌, ℕ, IsUtf8, OnOk, OnErr, nat_le};
 ghost use Rattle.std.specs.List.{AllByRecursion, fold};
 ghost use Rattle.mvt_attrs.specs.declared.value.Value.TheVariants as values;
 ghost use Rattle.mvt_feature.specs.ValueRefs.{referred_value};
 ghost use Rattle.mvt_geometry.specs.Visiting.{Part, EndsAs};
 ghost use Rattle.mvt_rows.specs.Lent.{table_of};
+ghost use Rattle.mvt_rows.specs.ReadTables.{places_of};
 ghost use Rattle.mvt_rows.specs.Tables.{no_rows, with_key, with_value, with_number, table_size};
 
 mod drawing;
@@ -104,11 +105,7 @@ impl Table {
     }
 
     pub(crate) fn places(&self) -> Places
-        ensures features { result.features ≡ length self.now.features }
-        ensures keys { result.keys ≡ length self.now.keys }
-        ensures values { result.values ≡ length self.now.values }
-        ensures parts { result.parts ≡ length self.now.parts }
-        ensures integers { result.integers ≡ length self.now.integers }
+        ensures { result ≡ places_of self.now }
     {
         Places {
             features: self.features.len(),
@@ -116,6 +113,7 @@ impl Table {
             values: self.values.len(),
             parts: self.parts.len(),
             integers: self.integers.len(),
+            texts: self.texts.len(),
         }
     }
 

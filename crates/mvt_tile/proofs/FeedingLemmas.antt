@@ -18,17 +18,19 @@ use Rattle.mvt_tile_value.specs.declared.tile.Tile.{Tile}
 use Rattle.mvt_tile_value.specs.Tiles.{HasDistinctNames, IsTile}
 use Rattle.mvt_tile.specs.Streams.{IsCalm, IsLive, ReportsEarly, ReportsAtEnd}
 use Rattle.mvt_tile.specs.TileRules.{fault_within}
+use Rattle.mvt_tile.specs.Visiting.{payloads_in}
 use Rattle.mvt_tile.proofs.DecoderLemmas.{live_start}
+use Rattle.mvt_tile.proofs.PayloadLemmas.{payloads_live, payloads_nothing}
 use Rattle.mvt_tile.proofs.StreamLemmas.{fault_stays, calm_front}
 
 -- no read yet
-pub fed_start : (limit : ℕ) (Has : List Item → Type 0) (offset : ℕ) (raw : List ℕ) (a : Option (List ℕ)) → Has [] → raw ≡ [] → offset ≡ 0
+pub fed_start : (limit : ℕ) (Has : List (List ℕ) → List Item → Type 0) (offset : ℕ) (raw : List ℕ) (a : Option (List ℕ)) → Has [] [] → raw ≡ [] → offset ≡ 0
     → HasFed limit Has offset raw a a 0
 fed_start limit Has offset raw a has none zero = record {
   items = [];
-  has = has;
   few = omega arith;
   given = [];
+  has = subst (λ ps. Has ps []) (sym payloads_nothing) has;
   consumed = Consumes-nil a;
   live = subst (λ r. IsLive limit offset [] r []) (sym none) (subst (λ n. IsLive limit n [] [] []) (sym zero) (live_start limit));
   turns = omega arith;
@@ -39,12 +41,12 @@ weaker_fed Memory o h = tt
 weaker_fed (Fault f) o h = h
 weaker_fed (Read k) o h = tt
 
-module _ (limit : ℕ) (Has : List Item → Type 0) (offset : ℕ) (raw : List ℕ) (a b c : Option (List ℕ)) (reads : ℕ)
+module _ (limit : ℕ) (Has : List (List ℕ) → List Item → Type 0) (offset : ℕ) (raw : List ℕ) (a b c : Option (List ℕ)) (reads : ℕ)
     (has : HasFed limit Has offset raw a b reads) where
   -- one piece more
-  pub fed_more : (buffer piece : List ℕ) (n : ℕ) (Next : List Item → Type 0) (place : ℕ) (left : List ℕ) → Consumes b c (take n buffer)
+  pub fed_more : (buffer piece : List ℕ) (n : ℕ) (Next : List (List ℕ) → List Item → Type 0) (place : ℕ) (left : List ℕ) → Consumes b c (take n buffer)
       → piece ≡ take n buffer → 0 < n → n ≤ length buffer
-      → ((new : List Item) × Next new × (length new ≤ place)
+      → ((new : List Item) × Next (payloads_in has.given ++ payloads_in (raw ++ piece)) new × (length new ≤ place)
       × ((s : List ℕ) → IsLive limit offset has.items raw s → IsLive limit place new left (s ++ piece)))
       → HasFed limit Next place left a c (reads + 1)
   fed_more buffer piece n Next place left consumed is some within (new, next, few, live) =
@@ -52,9 +54,9 @@ module _ (limit : ℕ) (Has : List Item → Type 0) (offset : ℕ) (raw : List �
       let turns = has.turns in
       record {
         items = new;
-        has = next;
         few = few;
         given = has.given ++ piece;
+        has = subst (λ ps. Next ps new) (sym (payloads_live limit offset has.items raw has.given piece has.live)) next;
         consumed = Consumes-trans a b c has.given piece has.consumed (subst (Consumes b c) (sym is) consumed);
         live = live has.given has.live;
         turns = omega (arith, length-append has.given piece);
@@ -90,7 +92,7 @@ module _ (limit : ℕ) (Has : List Item → Type 0) (offset : ℕ) (raw : List �
 
 -- one read more, which may be the last
 
-pub fed_reads : (limit : ℕ) (Has : List Item → Type 0) (offset : ℕ) (raw : List ℕ) (old now new : Inflow) (turn most : ℕ) (more : List ℕ)
+pub fed_reads : (limit : ℕ) (Has : List (List ℕ) → List Item → Type 0) (offset : ℕ) (raw : List ℕ) (old now new : Inflow) (turn most : ℕ) (more : List ℕ)
     → HasFed limit Has offset raw old.left now.left turn → Consumes now.left new.left more → turn < most
     → now.reads ≤ old.reads + turn → new.reads ≤ now.reads + 1 → new.asked ≤ max old.asked 65536 → Reads most old new
 fed_reads limit Has offset raw old now new turn most more has took below before once asked =
@@ -129,10 +131,10 @@ reports_at_end Memory o h = tt
 reports_at_end (Fault f) o h = h
 reports_at_end (Read k) o h = absurd h
 
-module _ (limit : ℕ) (Has : List Item → Type 0) (offset : ℕ) (raw : List ℕ) (a b : Option (List ℕ)) (reads : ℕ)
+module _ (limit : ℕ) (Has : List (List ℕ) → List Item → Type 0) (offset : ℕ) (raw : List ℕ) (a b : Option (List ℕ)) (reads : ℕ)
     (has : HasFed limit Has offset raw a b reads) (end : IsAtEnd b) where
   pub fed_tile : IsTile limit has.given (record { items = has.items })
-      → (tile : Tile) × Has tile.items × HasDistinctNames tile.items × IfSome a (λ bytes. IsTile limit bytes tile)
+      → (tile : Tile) × Has (payloads_in has.given) tile.items × HasDistinctNames tile.items × IfSome a (λ bytes. IsTile limit bytes tile)
   fed_tile is =
       let tile : Tile = record { items = has.items } in
       (tile, has.has, has.live.items_are.distinct, Consumes-whole a b has.given (λ bytes. IsTile limit bytes tile) has.consumed end is)
@@ -166,7 +168,7 @@ stopped_early limit given size a b e within h =
     let few : length h.back ≤ given = h.few in
     early_from limit size a b h.front h.back h.consumed (omega arith) h.calm
 
-pub fed_early : (limit size : ℕ) (Has : List Item → Type 0) (offset : ℕ) (raw : List ℕ) (a b : Option (List ℕ)) (reads : ℕ)
+pub fed_early : (limit size : ℕ) (Has : List (List ℕ) → List Item → Type 0) (offset : ℕ) (raw : List ℕ) (a b : Option (List ℕ)) (reads : ℕ)
     → HasFed limit Has offset raw a b reads → StopsEarly limit size a b
 fed_early limit size Has offset raw a b reads has =
     early_from limit size a b has.given [] (subst (Consumes a b) (sym (append-nil has.given)) has.consumed) (omega arith) has.live.calm

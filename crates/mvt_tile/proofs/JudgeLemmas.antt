@@ -31,6 +31,7 @@ use Rattle.mvt_tile.specs.Inner.Judging.{name_fault, payload_fault, fault_after,
 use Rattle.mvt_tile.specs.Streams.{ReportsEarly}
 use Rattle.mvt_tile.specs.TileRules.{is_bytes, field_rules, rest_rules, rest_rules_at}
 use Rattle.mvt_tile_value.specs.Tiles.{layers_of, HoldsItem, AreItems}
+use Rattle.mvt_tile.specs.Visiting.{payloads_in, payloads_of}
 use Rattle.mvt_tile.proofs.LayerLemmas.{first-wrong}
 use Rattle.mvt_tile.proofs.ItemLemmas.{are_over, are_more, first-after, are_clean}
 use Rattle.mvt_tile.proofs.ShiftLemmas.{split_at_place, rest_dropped, place_within}
@@ -126,7 +127,7 @@ pub record JudgedSoFar (offset : ℕ) (b : List ℕ) (old now : List Item) (to_c
   pub items_are : (front : List Entry) → AreItems front old → AreItems (front ++ map (shifted offset) done) now
   pub few : length now ≤ length old + length done
 
-pub so_far_start : (offset : ℕ) (b : List ℕ) (items : List Item) (to_come : Parts) → to_come ≡ split b
+unfoldable pub so_far_start : (offset : ℕ) (b : List ℕ) (items : List Item) (to_come : Parts) → to_come ≡ split b
     → JudgedSoFar offset b items items to_come
 so_far_start offset b items to_come all = record {
   done = [];
@@ -167,7 +168,7 @@ module _ (offset : ℕ) (b : List ℕ) (old now : List Item) (before : Parts) (s
         let ends : EndsBy before.rest_at x = step.1 in
         (omega (arith, ends.0), omega (arith, ends.1))
 
-    pub so_far_step : (after : List Item) → IsNext now (shifted offset x) after → length after ≤ length now + 1
+    unfoldable pub so_far_step : (after : List Item) → IsNext now (shifted offset x) after → length after ≤ length now + 1
         → JudgedSoFar offset b old after to_come
     so_far_step after next few = record {
       done = so_far.done ++ x ∷ [];
@@ -203,6 +204,10 @@ module _ (offset : ℕ) (b : List ℕ) (old now : List Item) (before : Parts) (s
         (first (each field_rules ((front ++ done) ++ shifted offset x ∷ []) later)) (reported (front ++ done) now_are))))))
 
   -- all fields are judged
+  pub so_far_payloads : before.fields ≡ [] → payloads_of so_far.done ≡ payloads_in b
+  so_far_payloads none =
+      ap payloads_of (sym (so_far.fields ∙ ap (λ xs. so_far.done ++ xs) none ∙ append-nil so_far.done))
+
   all_done : before.fields ≡ [] → (split_from offset b).fields ≡ map (shifted offset) so_far.done
   all_done none =
       ap (λ (p : Parts). p.fields) (split_at_place offset b)

@@ -6,6 +6,7 @@ mod TileLemmas
 mod StreamLemmas
 mod VisitedLemmas
 mod ShiftLemmas
+mod PayloadLemmas
 mod JudgeLemmas
 mod NamedLemmas
 mod DecoderLemmas

@@ -9,4 +9,4 @@ Decoding = Visiting × List Item
 
 -- the decoder stands for this stream
 abbrev pub StandsFor : ℕ → Decoding → List ℕ → Type 0
-StandsFor limit decoder stream = Stands limit (λ kept items. kept ≡ items) decoder stream
+StandsFor limit decoder stream = Stands limit (λ payloads kept items. kept ≡ items) decoder stream

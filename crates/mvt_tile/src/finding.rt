@@ -1,15 +1,15 @@
 //! Going over one layer of a tile, whatever the others are.
-ghost use Rattle.std.specs.Prelude.{◌≡◌, ◌+◌, ◌≤◌, [], ◌∷◌, length, None, Some, IfOk, IfErr, MatchOption, OnOk};
+ghost use Rattle.std.specs.Prelude.{◌≡◌, ℕ, ◌+◌, ◌≤◌, [], ◌∷◌, length, None, Some, IfOk, IfErr, MatchOption, OnOk};
 ghost use Rattle.std.specs.Option.{option_map};
 ghost use Rattle.mvt_base.specs.Rules.{first};
-ghost use Rattle.mvt_wire.specs.Field.{entry_of};
+ghost use Rattle.mvt_wire.specs.Field.{Entry, entry_of};
 ghost use Rattle.mvt_wire.specs.Split.{split};
 ghost use Rattle.mvt_message.specs.declared.item.Item.{Item};
 ghost use Rattle.mvt_message.specs.Items.{IsItem};
 ghost use Rattle.mvt_message.specs.ItemRules.{item_fault};
 ghost use Rattle.mvt_tile.specs.declared.fault.Fault.{Fault as TileFault};
 ghost use Rattle.mvt_tile.specs.Faults.{in_layer as in_layer_fault};
-ghost use Rattle.mvt_tile.specs.Finding.{IsFirst, IsFoundAt, first_in, named_fault};
+ghost use Rattle.mvt_tile.specs.Finding.{IsFoundAt, first_in, named_fault};
 ghost use Rattle.mvt_tile.specs.Streams.{ReportsAtEnd};
 ghost use Rattle.mvt_tile.specs.TileRules.{payload_of, rest_rules};
 
@@ -36,11 +36,12 @@ pub fn visit_named<V: TileVisitor>(
     bytes: &[u8],
     name: &[u8],
 ) -> Result<Option<V>, DecodeError>
-    requires { (given : V.Given) × V.has_items given visitor [] }
-    ensures found { (given : V.Given) → V.has_items given visitor [] → IfOk result
+    requires { (given : V.Given) × V.has_items given [] visitor [] }
+    ensures found { (given : V.Given) → V.has_items given [] visitor [] → IfOk result
         (λ found. MatchOption found (first_in name.now bytes.now ≡ None)
-        (λ visitor. (item : Item) × IsFirst name.now bytes.now item
-        × V.has_items given visitor (item ∷ []))) }
+        (λ visitor. (found : ℕ × Entry) × (item : Item)
+        × (first_in name.now bytes.now ≡ Some found) × IsItem (payload_of found.1) item
+        × V.has_items given (payload_of found.1 ∷ []) visitor (item ∷ []))) }
     ensures ok { OnOk result (named_fault LIMIT name.now bytes.now ≡ None) }
     ensures fault { IfErr result
         (λ error. ReportsAtEnd error (named_fault LIMIT name.now bytes.now)) }
@@ -117,11 +118,11 @@ fn visit_found<V: TileVisitor>(
     visitor: V,
     found: Found<'_>,
 ) -> Result<V, DecodeError>
-    requires start { (given : V.Given) × V.has_items given visitor [] }
+    requires start { (given : V.Given) × V.has_items given [] visitor [] }
     requires fits { found.payload_at + length found.payload.now ≤ LIMIT }
-    ensures item { (given : V.Given) → V.has_items given visitor [] → IfOk result (λ visitor.
+    ensures item { (given : V.Given) → V.has_items given [] visitor [] → IfOk result (λ visitor.
         (item : Item) × IsItem found.entry.payload.now item
-        × V.has_items given visitor (item ∷ [])) }
+        × V.has_items given (found.entry.payload.now ∷ []) visitor (item ∷ [])) }
     ensures ok { OnOk result (item_fault found.entry.payload.now found.entry.payload_at
         found.entry.tag_at ≡ None) }
     ensures fault { IfErr result (λ error. ReportsAtEnd error

@@ -35,7 +35,7 @@ pub(crate) struct ItemJudge;
 impl TileVisitor for ItemJudge {
     ghost Given = { Unit {0} };
 
-    ghost has_items = { λ _ _ _. Unit {0} };
+    ghost has_items = { λ _ _ _ _. Unit {0} };
 
     fn visit_item(
         &mut self,

@@ -40,7 +40,7 @@ impl TileVisitor for ItemKeeper {
 
     ghost Given = { Unit {0} };
 
-    ghost has_items = { λ _ keeper items. keeper.items.items ≡ items };
+    ghost has_items = { λ _ _ keeper items. keeper.items.items ≡ items };
 
     /// Reads an item, and keeps it.
     fn visit_item(

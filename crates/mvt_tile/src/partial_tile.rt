@@ -7,6 +7,7 @@ ghost use Rattle.mvt_tile.specs.Inner.Taking.{HasTaken};
 ghost use Rattle.mvt_tile.specs.Inner.Judging.{IsJudged, ReportsAfter};
 ghost use Rattle.mvt_tile.specs.Streams.{IsLive, ReportsEarly, ReportsAtEnd};
 ghost use Rattle.mvt_tile.specs.TileRules.{fault_within};
+ghost use Rattle.mvt_tile.specs.Visiting.{payloads_in};
 
 use crate::fault::{DecodeError, Fault};
 use crate::visiting::TileVisitor;
@@ -27,8 +28,8 @@ pub(crate) struct PartialTile<V> {
 impl<V: TileVisitor> PartialTile<V> {
     /// No pieces yet, without memory.
     pub(crate) fn new(alloc: Global, visitor: V) -> Self
-        ensures taken { (given : V.Given) → V.has_items given visitor []
-            → HasTaken (V.has_items given) result.taken [] }
+        ensures taken { (given : V.Given) → V.has_items given [] visitor []
+            → HasTaken (V.has_items given []) result.taken [] }
         ensures raw { result.raw.items ≡ [] }
         ensures offset { result.offset ≡ 0 }
     {
@@ -41,18 +42,20 @@ impl<V: TileVisitor> PartialTile<V> {
 
     /// Takes the items in a piece after the bytes that are held, and holds what is then left.
     pub(crate) fn take(&mut self, alloc: Global, piece: &[u8]) -> Result<(), DecodeError>
-        requires few { (given : V.Given) × (items : List Item)
-            × HasTaken (V.has_items given) self.old.taken items × (length items ≤ self.old.offset) }
+        requires few { (given : V.Given) × (payloads : List (List ℕ)) × (items : List Item)
+            × HasTaken (V.has_items given payloads) self.old.taken items × (length items ≤ self.old.offset) }
         requires small { self.old.offset + length self.old.raw.items ≤ LIMIT }
         ensures small { OnOk result (self.new.offset + length self.new.raw.items ≤ LIMIT) }
-        ensures live { (given : V.Given) (items : List Item)
-            → HasTaken (V.has_items given) self.old.taken items → length items ≤ self.old.offset
-            → OnOk result ((new : List Item) × HasTaken (V.has_items given) self.new.taken new
+        ensures live { (given : V.Given) (payloads : List (List ℕ)) (items : List Item)
+            → HasTaken (V.has_items given payloads) self.old.taken items → length items ≤ self.old.offset
+            → OnOk result ((new : List Item)
+            × HasTaken (V.has_items given (payloads ++ payloads_in (self.old.raw.items
+            ++ piece.now))) self.new.taken new
             × (length new ≤ self.new.offset)
             × ((s : List ℕ) → IsLive LIMIT self.old.offset items self.old.raw.items s
             → IsLive LIMIT self.new.offset new self.new.raw.items (s ++ piece.now))) }
-        ensures fault { (given : V.Given) (items : List Item)
-            → HasTaken (V.has_items given) self.old.taken items → IfErr result
+        ensures fault { (given : V.Given) (payloads : List (List ℕ)) (items : List Item)
+            → HasTaken (V.has_items given payloads) self.old.taken items → IfErr result
             (λ error. (s : List ℕ) → IsLive LIMIT self.old.offset items self.old.raw.items s
             → ReportsEarly error (fault_within LIMIT (s ++ piece.now))) }
     {
@@ -93,17 +96,19 @@ fn feed_after<V: TileVisitor>(
     offset: u64,
     piece: &[u8],
 ) -> Result<usize, DecodeError>
-    requires few { (given : V.Given) × (items : List Item)
-        × HasTaken (V.has_items given) taken.old items × (length items ≤ offset) }
+    requires few { (given : V.Given) × (payloads : List (List ℕ)) × (items : List Item)
+        × HasTaken (V.has_items given payloads) taken.old items × (length items ≤ offset) }
     requires small { offset + (length raw.old.items + length piece.now) ≤ LIMIT }
-    ensures judged { (given : V.Given) (items : List Item)
-        → HasTaken (V.has_items given) taken.old items → IfOk result
-        (λ used. (new : List Item) × HasTaken (V.has_items given) taken.new new
+    ensures judged { (given : V.Given) (payloads : List (List ℕ)) (items : List Item)
+        → HasTaken (V.has_items given payloads) taken.old items → IfOk result
+        (λ used. (new : List Item)
+        × HasTaken (V.has_items given (payloads ++ payloads_in (raw.old.items ++ piece.now)))
+        taken.new new
         × IsJudged offset (raw.old.items ++ piece.now) items new used) }
     ensures raw { IfOk result (λ used. raw.new.items ≡ drop used (raw.old.items ++ piece.now)) }
     ensures within { IfOk result (λ used. used ≤ length raw.old.items + length piece.now) }
-    ensures fault { (given : V.Given) (items : List Item)
-        → HasTaken (V.has_items given) taken.old items → IfErr result
+    ensures fault { (given : V.Given) (payloads : List (List ℕ)) (items : List Item)
+        → HasTaken (V.has_items given payloads) taken.old items → IfErr result
         (λ error. ReportsAfter error offset (raw.old.items ++ piece.now) items) }
 {
     if raw.is_empty() {

@@ -1,5 +1,5 @@
 //! Reading a tile from a reader.
-ghost use Rattle.std.specs.Prelude.{◌≡◌, ◌+◌, ◌<◌, ◌≤◌, [], length, IfOk, IfErr, IfSome, OnOk};
+ghost use Rattle.std.specs.Prelude.{◌≡◌, ℕ, ◌+◌, ◌<◌, ◌≤◌, List, [], length, IfOk, IfErr, IfSome, OnOk};
 ghost use Rattle.std.specs.Io.KnownBytes.{IsAtEnd};
 ghost use Rattle.mvt_base.specs.Reports.{Reports};
 ghost use Rattle.mvt_io.specs.States.{EndedBy};
@@ -53,12 +53,13 @@ pub(crate) fn read_whole<R: Source, V: TileVisitor>(
     reader: &mut R,
     visitor: V,
 ) -> Result<Taken<V>, DecodeError>
-    requires start { (given : V.Given) × V.has_items given visitor [] }
+    requires start { (given : V.Given) × V.has_items given [] visitor [] }
     ensures end { OnOk result (IsAtEnd (R.state reader.new).left) }
     ensures fault { IfErr result (λ error. IfSome (R.state reader.old).left
         (λ input. Reports (fault_of error) (fault_within LIMIT input))) }
-    ensures tile { (given : V.Given) → V.has_items given visitor [] → IfOk result (λ taken.
-        (tile : Tile) × HasTaken (V.has_items given) taken tile.items
+    ensures tile { (given : V.Given) → V.has_items given [] visitor [] → IfOk result (λ taken.
+        (payloads : List (List ℕ)) × (tile : Tile)
+        × HasTaken (V.has_items given payloads) taken tile.items
         × HasDistinctNames tile.items
         × IfSome (R.state reader.old).left (λ bytes. IsTile LIMIT bytes tile)) }
     ensures read { ReadsTile LIMIT (R.state reader.old) (R.state reader.new) (kind_of result) }
@@ -78,11 +79,12 @@ fn feed_all<R: Source, V: TileVisitor>(
 ) -> Result<(), DecodeError>
     requires room { 0 < length buffer.old }
     requires few { length buffer.old ≤ 65536 }
-    requires start { (given : V.Given) × HasTaken (V.has_items given) partial.old.taken [] }
+    requires start { (given : V.Given) × HasTaken (V.has_items given []) partial.old.taken [] }
     requires raw { partial.old.raw.items ≡ [] }
     requires offset { partial.old.offset ≡ 0 }
-    ensures fed { (given : V.Given) → HasTaken (V.has_items given) partial.old.taken [] → OnOk result
-        (HasFed LIMIT (HasTaken (V.has_items given) partial.new.taken) partial.new.offset
+    ensures fed { (given : V.Given) → HasTaken (V.has_items given []) partial.old.taken [] → OnOk result
+        (HasFed LIMIT (λ payloads. HasTaken (V.has_items given payloads) partial.new.taken)
+        partial.new.offset
         partial.new.raw.items (R.state reader.old).left (R.state reader.new).left 0) }
     ensures end { OnOk result (IsAtEnd (R.state reader.new).left) }
     ensures stopped { IfErr result (HasStopped LIMIT (R.state reader.new).given

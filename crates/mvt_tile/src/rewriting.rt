@@ -121,7 +121,7 @@ impl TileVisitor for Rewriter {
     // Which items are wanted.
     ghost Given = { Item → Bool };
 
-    ghost has_items = { HasRewritten LIMIT };
+    ghost has_items = { λ wanted _ r items. HasRewritten LIMIT wanted r items };
 
     /// Makes an item that is wanted canonical, and keeps its bytes; judges another.
     fn visit_item(

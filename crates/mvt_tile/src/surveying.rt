@@ -55,7 +55,7 @@ impl<'a> TileVisitor for Surveyor<'a> {
     // The input.
     ghost Given = { List ℕ };
 
-    ghost has_items = { λ input s items. (s.count ≡ length items)
+    ghost has_items = { λ input _ s items. (s.count ≡ length items)
         × AreFound LIMIT input s.found items };
 
     /// Keeps what is found of an item.

@@ -5,7 +5,7 @@ ghost use Rattle.mvt_tile_value.specs.Tiles.{IsTile};
 ghost use Rattle.mvt_tile_value.specs.ValidTiles.{Valid};
 ghost use Rattle.mvt_tile.specs.Streams.{Answers, ReportsAtEnd};
 ghost use Rattle.mvt_tile.specs.TileRules.{fault_within};
-ghost use Rattle.mvt_tile.specs.Visiting.{StandsFor};
+ghost use Rattle.mvt_tile.specs.Visiting.{StandsFor, payloads_in};
 
 use crate::fault::DecodeError;
 use crate::partial_tile::PartialTile;
@@ -28,7 +28,7 @@ pub struct VisitingDecoder<V: TileVisitor> {
 impl<V: TileVisitor> Model for VisitingDecoder<V> {
     ghost use Rattle.std.specs.Prelude.{ℕ, List, IfNone};
     ghost use Rattle.mvt_base.specs.declared.TheConstants.{LIMIT};
-    ghost use Rattle.mvt_tile.specs.Visiting.{HasVisited, Visiting};
+    ghost use Rattle.mvt_tile.specs.Visiting.{HasVisited, Visiting, payloads_in};
 
     ghost Value = { Visiting × V };
 
@@ -44,7 +44,7 @@ impl<V: TileVisitor> Model for VisitingDecoder<V> {
     ) };
 
     ghost invariant = { λ d. IfNone d.failure ((given : V.Given) × (s : List ℕ)
-        × HasVisited LIMIT (V.has_items given d.partial.taken.visitor) (record {
+        × HasVisited LIMIT (V.has_items given (payloads_in s) d.partial.taken.visitor) (record {
           failure = d.failure;
           count = d.partial.taken.names.count;
           names = d.partial.taken.names.names;
@@ -56,8 +56,8 @@ impl<V: TileVisitor> Model for VisitingDecoder<V> {
 impl<V: TileVisitor> VisitingDecoder<V> {
     /// A decoder of no bytes yet, which takes no memory.
     pub fn new(alloc: Global, visitor: V) -> Self
-        requires { (given : V.Given) × V.has_items given visitor [] }
-        ensures stands { (given : V.Given) → V.has_items given visitor []
+        requires { (given : V.Given) × V.has_items given [] visitor [] }
+        ensures stands { (given : V.Given) → V.has_items given [] visitor []
             → StandsFor LIMIT (V.has_items given) result [] }
         ensures fresh { result.0.failure ≡ None }
     {
@@ -108,9 +108,9 @@ impl<V: TileVisitor> VisitingDecoder<V> {
     pub fn finish(self) -> Result<V, DecodeError>
         ensures tile { IfOk result (λ visitor. (given : V.Given) (s : List ℕ)
             → StandsFor LIMIT (V.has_items given) self s → (tile : Tile) × IsTile LIMIT s tile
-            × Valid tile × V.has_items given visitor tile.items) }
-        ensures valid { IfOk result (λ visitor. (given : V.Given) × (tile : Tile) × Valid tile
-            × V.has_items given visitor tile.items) }
+            × Valid tile × V.has_items given (payloads_in s) visitor tile.items) }
+        ensures valid { IfOk result (λ visitor. (given : V.Given) × (s : List ℕ) × (tile : Tile)
+            × Valid tile × V.has_items given (payloads_in s) visitor tile.items) }
         ensures fault { IfErr result (λ error. (given : V.Given) (s : List ℕ)
             → StandsFor LIMIT (V.has_items given) self s
             → ReportsAtEnd error (fault_within LIMIT s)) }

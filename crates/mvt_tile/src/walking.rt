@@ -15,6 +15,7 @@ ghost use Rattle.mvt_tile.specs.Inner.Taking.{HasTaken};
 ghost use Rattle.mvt_tile.specs.Inner.Judging.{IsJudged, IsPlaceOf, IsOneItemMore, ReportsAfter, payload_fault, repeated_at, reported_in};
 ghost use Rattle.mvt_tile.specs.Streams.{ReportsEarly, ReportsAtEnd};
 ghost use Rattle.mvt_tile.specs.TileRules.{field_rules, fault_within};
+ghost use Rattle.mvt_tile.specs.Visiting.{payloads_in, payloads_of};
 ghost use Rattle.mvt_tile_value.specs.Tiles.{AreItems, IsTile};
 
 use crate::fault::{DecodeError, Fault};
@@ -36,8 +37,8 @@ pub(crate) struct Taken<V> {
 impl<V: TileVisitor> Taken<V> {
     /// No items yet, without memory.
     pub(crate) fn new(alloc: Global, visitor: V) -> Self
-        ensures { (given : V.Given) → V.has_items given visitor []
-            → HasTaken (V.has_items given) result [] }
+        ensures { (given : V.Given) → V.has_items given [] visitor []
+            → HasTaken (V.has_items given []) result [] }
     {
         Taken {
             names: Names::new(alloc),
@@ -54,14 +55,15 @@ impl<V: TileVisitor> Taken<V> {
         payload_at: u64,
         tag_at: u64,
     ) -> Result<(), DecodeError>
-        requires few { (given : V.Given) × (items : List Item)
-            × HasTaken (V.has_items given) self.old items × (length items ≤ LIMIT) }
+        requires few { (given : V.Given) × (payloads : List (List ℕ)) × (items : List Item)
+            × HasTaken (V.has_items given payloads) self.old items × (length items ≤ LIMIT) }
         requires fits { payload_at + length payload.now ≤ LIMIT }
-        ensures item { (given : V.Given) (items : List Item)
-            → HasTaken (V.has_items given) self.old items → OnOk result ((new : List Item)
-            × HasTaken (V.has_items given) self.new new × IsOneItemMore items new payload.now) }
-        ensures fault { (given : V.Given) (items : List Item)
-            → HasTaken (V.has_items given) self.old items → IfErr result
+        ensures item { (given : V.Given) (payloads : List (List ℕ)) (items : List Item)
+            → HasTaken (V.has_items given payloads) self.old items → OnOk result ((new : List Item)
+            × HasTaken (V.has_items given (payloads ++ payload.now ∷ [])) self.new new
+            × IsOneItemMore items new payload.now) }
+        ensures fault { (given : V.Given) (payloads : List (List ℕ)) (items : List Item)
+            → HasTaken (V.has_items given payloads) self.old items → IfErr result
             (λ error. ReportsEarly error (payload_fault (length items)
             (flat_map names_in items) payload.now payload_at tag_at)) }
     {
@@ -78,10 +80,10 @@ pub(crate) fn walk_whole<V: TileVisitor>(
     visitor: V,
     bytes: &[u8],
 ) -> Result<Taken<V>, DecodeError>
-    requires start { (given : V.Given) × V.has_items given visitor [] }
-    ensures tile { (given : V.Given) → V.has_items given visitor [] → IfOk result (λ taken.
+    requires start { (given : V.Given) × V.has_items given [] visitor [] }
+    ensures tile { (given : V.Given) → V.has_items given [] visitor [] → IfOk result (λ taken.
         (tile : Tile) × IsTile LIMIT bytes.now tile
-        × HasTaken (V.has_items given) taken tile.items) }
+        × HasTaken (V.has_items given (payloads_in bytes.now)) taken tile.items) }
     ensures fault { IfErr result (λ error. ReportsAtEnd error (fault_within LIMIT bytes.now)) }
 {
     let (fitting, rest) = bytes.split_at(bytes.len().min(LIMIT as usize));
@@ -104,15 +106,16 @@ pub(crate) fn walk_fields<V: TileVisitor>(
     bytes: &[u8],
     offset: u64,
 ) -> Result<usize, DecodeError>
-    requires few { (given : V.Given) × (items : List Item)
-        × HasTaken (V.has_items given) taken.old items × (length items ≤ offset) }
+    requires few { (given : V.Given) × (payloads : List (List ℕ)) × (items : List Item)
+        × HasTaken (V.has_items given payloads) taken.old items × (length items ≤ offset) }
     requires fits { offset + length bytes.now ≤ LIMIT }
-    ensures judged { (given : V.Given) (items : List Item)
-        → HasTaken (V.has_items given) taken.old items → IfOk result
-        (λ used. (new : List Item) × HasTaken (V.has_items given) taken.new new
+    ensures judged { (given : V.Given) (payloads : List (List ℕ)) (items : List Item)
+        → HasTaken (V.has_items given payloads) taken.old items → IfOk result
+        (λ used. (new : List Item)
+        × HasTaken (V.has_items given (payloads ++ payloads_in bytes.now)) taken.new new
         × IsJudged offset bytes.now items new used) }
-    ensures fault { (given : V.Given) (items : List Item)
-        → HasTaken (V.has_items given) taken.old items → IfErr result
+    ensures fault { (given : V.Given) (payloads : List (List ℕ)) (items : List Item)
+        → HasTaken (V.has_items given payloads) taken.old items → IfErr result
         (λ error. ReportsAfter error offset bytes.now items) }
 {
     for field in Fields::new(bytes) {
@@ -181,17 +184,18 @@ fn take_field<V: TileVisitor>(
     field: &Field<'_>,
     offset: u64,
 ) -> Result<(), DecodeError>
-    requires few { (given : V.Given) × (items : List Item)
-        × HasTaken (V.has_items given) taken.old items × (length items ≤ LIMIT) }
+    requires few { (given : V.Given) × (payloads : List (List ℕ)) × (items : List Item)
+        × HasTaken (V.has_items given payloads) taken.old items × (length items ≤ LIMIT) }
     requires place { offset + field.now.at ≤ LIMIT }
     requires fits { offset + (field.now.body + bytes_size (entry_of field.now).content) ≤ LIMIT }
-    ensures items { (given : V.Given) (items : List Item)
-        → HasTaken (V.has_items given) taken.old items → OnOk result ((new : List Item)
-        × HasTaken (V.has_items given) taken.new new × (length new ≤ length items + 1)
+    ensures items { (given : V.Given) (payloads : List (List ℕ)) (items : List Item)
+        → HasTaken (V.has_items given payloads) taken.old items → OnOk result ((new : List Item)
+        × HasTaken (V.has_items given (payloads ++ payloads_of (entry_of field.now ∷ [])))
+        taken.new new × (length new ≤ length items + 1)
         × ((front : List Entry) → AreItems front items
         → AreItems (front ++ shifted offset (entry_of field.now) ∷ []) new)) }
-    ensures fault { (given : V.Given) (items : List Item)
-        → HasTaken (V.has_items given) taken.old items → IfErr result (λ error.
+    ensures fault { (given : V.Given) (payloads : List (List ℕ)) (items : List Item)
+        → HasTaken (V.has_items given payloads) taken.old items → IfErr result (λ error.
         (front : List Entry) → AreItems front items
         → ReportsEarly error (first (field_rules front (shifted offset (entry_of field.now))))) }
 {

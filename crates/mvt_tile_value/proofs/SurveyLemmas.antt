@@ -8,14 +8,14 @@ use Rattle.std.proofs.lemmas.List.{append_cancel_left, nil_from_length}
 use Rattle.std.proofs.lemmas.List.Sums.{sum_by-append}
 use Rattle.std.proofs.lemmas.Slice.Eq.{bytes_eq-Decides}
 use Rattle.mvt_feature.specs.declared.feature.Feature.{Feature}
+use Rattle.mvt_wire.specs.Split.{split}
 use Rattle.mvt_message.specs.declared.item.Item.{Item}
 use Rattle.mvt_message.specs.declared.item.Item.TheVariants.{Layer, Foreign}
 use Rattle.mvt_message.specs.declared.item.Layer.{Layer as ALayer}
 use Rattle.mvt_message.specs.declared.visiting.Visited.TheVariants as visited
 use Rattle.mvt_message.specs.Items.{IsItem}
 use Rattle.mvt_message.specs.ValidItems.{ValidItem}
-use Rattle.mvt_message.specs.Visiting.{HasLayer, IsVisited}
-use Rattle.mvt_attrs.specs.declared.value.Value.{Value}
+use Rattle.mvt_message.specs.Visiting.{HasLayer, IsVisited, OfFeatures}
 use Rattle.mvt_message.specs.CanonicalItems.{canonical_item}
 use Rattle.mvt_tile_value.specs.declared.note.Note.{Note}
 use Rattle.mvt_tile_value.specs.declared.note.Note.TheVariants.{NoFeatures, NoLayers}
@@ -108,23 +108,23 @@ pub surveyed : (tile : Tile) (layers features : ℕ) (is answer : Bool) (notes :
 surveyed tile layers features is answer notes count sum same noted = rw (sym count, sum, same, noted) refl
 
 -- of a layer that was visited
-pub layer_told : {V : Type 0} (HasItems : V → Type 0) (HasFeatures : List (List ℕ) → List Value → V → List Feature → Type 0) (visitor : V)
-    (name : Bor (List ℕ)) (extent : ℕ) (P : Item → Type 0) (item : Item)
-    → IsVisited HasItems HasFeatures visitor (visited.Layer name extent) item → P item
-    → (layer : ALayer) × HasLayer HasFeatures visitor (visited.Layer name extent) layer × P (Layer layer)
-layer_told HasItems HasFeatures visitor name extent P (Layer layer) is p = (layer, is, p)
-layer_told HasItems HasFeatures visitor name extent P (Foreign version content) is p = absurd is
+pub layer_told : {V : Type 0} (HasGiven : V → Type 0) (HasFeatures : OfFeatures V) (payload : List ℕ) (visitor : V) (name : Bor (List ℕ))
+    (extent : ℕ) (P : Item → Type 0) (item : Item)
+    → IsVisited HasGiven HasFeatures payload visitor (visited.Layer name extent) item → P item
+    → (layer : ALayer) × HasLayer HasFeatures (split payload).fields visitor (visited.Layer name extent) layer × P (Layer layer)
+layer_told HasGiven HasFeatures payload visitor name extent P (Layer layer) is p = (layer, is, p)
+layer_told HasGiven HasFeatures payload visitor name extent P (Foreign version content) is p = absurd is
 
 foreign_same : (version other : ℕ) (payload content : List ℕ) → version ≡ other → IsItem payload (Foreign other content)
     → Foreign other content ≡ Foreign version payload
 unfolding IsItem
 foreign_same version other payload content same of = ap₂ Foreign (sym same) of.3.2
 
-pub foreign_told : {V : Type 0} (HasItems : V → Type 0) (HasFeatures : List (List ℕ) → List Value → V → List Feature → Type 0) (visitor : V)
-    (version : ℕ) (payload : List ℕ) (item : Item)
-    → IsVisited HasItems HasFeatures visitor (visited.Foreign version) item → IsItem payload item → item ≡ Foreign version payload
-foreign_told HasItems HasFeatures visitor version payload (Layer layer) is of = absurd is
-foreign_told HasItems HasFeatures visitor version payload (Foreign other content) is of = foreign_same version other payload content is.0 of
+pub foreign_told : {V : Type 0} (HasGiven : V → Type 0) (HasFeatures : OfFeatures V) (payload : List ℕ) (visitor : V) (version : ℕ)
+    (item : Item)
+    → IsVisited HasGiven HasFeatures payload visitor (visited.Foreign version) item → IsItem payload item → item ≡ Foreign version payload
+foreign_told HasGiven HasFeatures payload visitor version (Layer layer) is of = absurd is
+foreign_told HasGiven HasFeatures payload visitor version (Foreign other content) is of = foreign_same version other payload content is.0 of
 
 -- one layer more that isn't canonical where it stands
 pub layer_other : (limit : ℕ) (input : List ℕ) (old new : SurveyBuilder) (items : List Item) (layer : ALayer) (count index : ℕ)

@@ -60,14 +60,17 @@ impl LayerNotes {
 
 /// Of a layer that is judged alone.
 impl LayerVisitor for LayerNotes {
-    ghost use Rattle.std.specs.Prelude.{[], length};
+    ghost use Rattle.std.specs.Prelude.{List, [], length};
+    ghost use Rattle.mvt_message.specs.declared.item.Item.{Item};
     ghost use Rattle.mvt_tile_value.specs.Findings.{AreNotedSoFar};
 
-    ghost has_items = { λ items noted. AreNotedSoFar (length items) noted [] };
+    ghost Given = { List Item };
+
+    ghost has_given = { λ items noted. AreNotedSoFar (length items) noted [] };
 
     ghost has_values = { λ items noted _. AreNotedSoFar (length items) noted [] };
 
-    ghost has_features = { λ items _ _ noted features.
+    ghost has_features = { λ items _ _ noted _ features.
         AreNotedSoFar (length items) noted features };
 
     fn visit_value(

@@ -527,17 +527,18 @@ const OLD_AND_NEW: [u8; 23] = [
     0x0A, 0x01, 0x61, 0x22, 0x02, 0x28, 0x07,
 ];
 
-// The value of a layer of another version has a row too, which no layer names.
+// A layer of another version has its bytes alone.
 #[test]
 fn reads_rows_behind_a_layer_of_another_version(rt: HostRuntime) {
     let table = read_rows(rt.alloc(), &OLD_AND_NEW).expect(&rt, "rows");
     let rows = table.leak();
-    expect_eq!(rt; rows.values.len(), 2);
+    expect_eq!(rt; rows.values.len(), 1);
     let spans = rows.layers.iter().map(|layer| (layer.bytes, layer.values));
     let spans = spans.collect::<Vec<_>>(rt.alloc()).expect(&rt, "spans");
-    let old = (Span { start: 1, len: 10 }, NOWHERE);
+    let old = (Span { start: 0, len: 10 }, NOWHERE);
     expect_eq!(rt; spans.first(), Some(&old));
-    let new = (NOWHERE, Span { start: 1, len: 1 });
+    let new = (NOWHERE, Span { start: 0, len: 1 });
+    expect_eq!(rt; rows.texts.len(), 11);
     expect_eq!(rt; spans.last(), Some(&new));
 }
 
@@ -641,10 +642,33 @@ fn reads_no_rows_of_a_broken_tile(rt: HostRuntime) {
     expect_eq!(rt; error, Some(DecodeError::Fault(fault)));
 }
 
-fn is_reading_refused(rt: &(impl Abort + AllocGlobal)) -> bool {
-    match read_rows(rt.alloc(), &READ_BYTES) {
+// A layer of version 3 with 16 values, whose version stands neither first nor last.
+const VERSION_3: [u8; 74] = [
+    0x1A, 0x48, 0x0A, 0x01, 0x61, 0x22, 0x02, 0x28, 0x01, 0x22, 0x02, 0x28, 0x02, 0x22, 0x02, 0x28,
+    0x03, 0x22, 0x02, 0x28, 0x04, 0x22, 0x02, 0x28, 0x05, 0x22, 0x02, 0x28, 0x06, 0x22, 0x02, 0x28,
+    0x07, 0x22, 0x02, 0x28, 0x08, 0x22, 0x02, 0x28, 0x09, 0x22, 0x02, 0x28, 0x0A, 0x22, 0x02, 0x28,
+    0x0B, 0x22, 0x02, 0x28, 0x0C, 0x22, 0x02, 0x28, 0x0D, 0x22, 0x02, 0x28, 0x0E, 0x22, 0x02, 0x28,
+    0x0F, 0x22, 0x02, 0x28, 0x10, 0x78, 0x03, 0x1A, 0x01, 0x6B,
+];
+
+const VERSION_3_ROWS: Rows = Rows {
+    layers: &[LayerRow {
+        version: 3,
+        extent: 0,
+        name: NOWHERE,
+        features: NOWHERE,
+        keys: NOWHERE,
+        values: NOWHERE,
+        bytes: Span { start: 0, len: 72 },
+    }],
+    texts: VERSION_3.split_at(2).1,
+    ..NONE
+};
+
+fn is_reading_refused(rt: &(impl Abort + AllocGlobal), bytes: &[u8], rows: &Rows) -> bool {
+    match read_rows(rt.alloc(), bytes) {
         Ok(table) => {
-            expect_rows(rt, &table.leak(), &READ);
+            expect_rows(rt, &table.leak(), rows);
             false
         }
         Err(error) => {
@@ -658,7 +682,18 @@ fn is_reading_refused(rt: &(impl Abort + AllocGlobal)) -> bool {
 fn rows_refused_memory(rt: HostRuntime) {
     let mut refused: u32 = 0;
     for _ in 0..2 {
-        refused = refused.saturating_add(u32::from(is_reading_refused(&rt)));
+        refused = refused.saturating_add(u32::from(is_reading_refused(&rt, &READ_BYTES, &READ)));
+    }
+    expect!(rt; refused <= 1);
+}
+
+// Where a value of a layer of another version finds no memory, the rows are the same.
+#[test]
+fn rows_of_another_version_refused_memory(rt: HostRuntime) {
+    let mut refused: u32 = 0;
+    for _ in 0..2 {
+        let is_refused = is_reading_refused(&rt, &VERSION_3, &VERSION_3_ROWS);
+        refused = refused.saturating_add(u32::from(is_refused));
     }
     expect!(rt; refused <= 1);
 }

@@ -1,7 +1,7 @@
 //! The rows of features and layers.
 ghost use Rattle.std.specs.Prelude.{◌≡◌, ◌-◌, OnErr, OnOk};
 ghost use Rattle.mvt_feature.specs.Canonical.{type_number};
-ghost use Rattle.mvt_rows.specs.Tables.{with_feature_row, with_foreign, with_layer_row};
+ghost use Rattle.mvt_rows.specs.Tables.{with_feature_row, with_foreign, with_layer_row, without_values};
 
 use super::{Table, after_list};
 use crate::places::Places;
@@ -75,6 +75,14 @@ impl Table {
             bytes: after_list(0, 0),
         })?;
         self.texts.extend_from_slice(name.as_bytes())
+    }
+
+    /// Drops what stands behind these places of values and texts.
+    pub(super) fn forget_values(&mut self, opened: Places)
+        ensures { self.new ≡ without_values self.old opened }
+    {
+        self.values.truncate(opened.values);
+        self.texts.truncate(opened.texts);
     }
 
     /// Adds a layer of another version, which is carried as it is.

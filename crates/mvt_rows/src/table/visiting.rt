@@ -6,14 +6,14 @@ ghost use Rattle.mvt_tile.specs.Streams.{ReportsAtEnd};
 ghost use Rattle.mvt_tile.specs.TileRules.{fault_within};
 ghost use Rattle.mvt_rows.specs.Reading.{IsLayerRead, IsRead};
 ghost use Rattle.mvt_rows.specs.Tables.{no_rows, table_size};
-ghost use Rattle.mvt_rows.specs.Visiting.{AreItemRows};
+ghost use Rattle.mvt_rows.specs.Visiting.{AreItemRows, HasRead};
 
 use super::Table;
 use crate::places::Places;
 use mvt_attrs::LayerKeys;
 use mvt_base::Text;
 use mvt_feature::{Scratch, read_value_ref};
-use mvt_message::{LayerVisitor, MessageError, Visited, visit_layer};
+use mvt_message::{LayerVisitor, MessageError, Visited, visit_version_2};
 use mvt_tile::{DecodeError, TileVisitor, VisitingDecoder, visit_named, visit_tile};
 use std::alloc::{AllocError, Global};
 
@@ -98,6 +98,7 @@ impl RowsVisitor {
         ensures table { result.table ≡ no_rows }
         ensures most { result.most ≡ most }
         ensures items { AreItemRows result.table [] }
+        ensures read { HasRead result.table [] [] }
     {
         let table = Table::new(alloc);
         let opened = table.places();
@@ -128,11 +129,12 @@ impl RowsVisitor {
 }
 
 impl TileVisitor for RowsVisitor {
-    ghost use Rattle.mvt_rows.specs.Visiting.{AreItemRows};
+    ghost use Rattle.mvt_rows.specs.Visiting.{AreItemRows, HasRead};
 
     ghost Given = { Unit {0} };
 
-    ghost has_items = { λ _ rows items. AreItemRows rows.table items };
+    ghost has_items = { λ _ payloads rows items. AreItemRows rows.table items
+        × HasRead rows.table payloads items };
 
     fn visit_item(
         &mut self,
@@ -142,13 +144,14 @@ impl TileVisitor for RowsVisitor {
         tag_at: u64,
     ) -> Result<Option<Text>, MessageError> {
         self.opened = self.table.places();
-        match visit_layer(alloc, self, payload, payload_at, tag_at) {
+        match visit_version_2(alloc, self, payload, payload_at, tag_at) {
             Ok(Visited::Layer { name, extent }) => {
                 self.table.add_layer_row(name, extent, self.opened)?;
                 self.keep_within()?;
                 Ok(Some(Text::from_str(alloc, name)?))
             }
             Ok(Visited::Foreign { version }) => {
+                self.table.forget_values(self.opened);
                 self.table.add_foreign(version, payload)?;
                 self.keep_within()?;
                 Ok(None)
@@ -159,16 +162,23 @@ impl TileVisitor for RowsVisitor {
 }
 
 impl LayerVisitor for RowsVisitor {
-    ghost use Rattle.std.specs.Prelude.{[]};
-    ghost use Rattle.mvt_rows.specs.Visiting.{AreItemRows, AreLayerRows};
+    ghost use Rattle.std.specs.Prelude.{◌≡◌, List, []};
+    ghost use Rattle.mvt_message.specs.declared.item.Item.{Item};
+    ghost use Rattle.mvt_rows.specs.Tables.{Table as Rows, without_values};
+    ghost use Rattle.mvt_rows.specs.Visiting.{AreLayerRows, HasReadFeatures, HasReadValues};
 
-    ghost has_items = { λ items rows. AreItemRows rows.table items };
+    // The table before the layer, and the items that it is.
+    ghost Given = { Rows × List Item };
 
-    ghost has_values = { λ items rows values. AreLayerRows rows.table rows.opened items [] values
-        [] };
+    ghost has_given = { λ given rows. without_values rows.table rows.opened ≡ given.0 };
 
-    ghost has_features = { λ items keys values rows features. AreLayerRows rows.table rows.opened
-        items keys values features };
+    ghost has_values = { λ given rows values.
+        AreLayerRows rows.table rows.opened given.1 [] values []
+        × HasReadValues given.0 rows.table rows.opened values };
+
+    ghost has_features = { λ given keys values rows payloads features.
+        AreLayerRows rows.table rows.opened given.1 keys values features
+        × HasReadFeatures given.0 rows.table rows.opened keys values payloads features };
 
     fn visit_value(
         &mut self,

@@ -7,14 +7,15 @@ use Rattle.mvt_tile.specs.declared.fault.DecodeError.{DecodeError}
 use Rattle.mvt_tile.specs.declared.fault.DecodeError.TheVariants.{Memory, Fault, Read}
 use Rattle.mvt_tile.specs.Streams.{IsCalm, IsLive, ReportsEarly}
 use Rattle.mvt_tile.specs.TileRules.{fault_within}
+use Rattle.mvt_tile.specs.Visiting.{payloads_in}
 
 -- so many reads gave bytes whose items were taken, and of which these are left after the last whole field
-pub record HasFed (limit : ℕ) (HasTaken : List Item → Type 0) (offset : ℕ) (raw : List ℕ) (before now : Option (List ℕ))
+pub record HasFed (limit : ℕ) (HasTaken : List (List ℕ) → List Item → Type 0) (offset : ℕ) (raw : List ℕ) (before now : Option (List ℕ))
     (reads : ℕ) : Type 0 where
   pub items : List Item
-  pub has : HasTaken items
   pub few : length items ≤ offset
   pub given : List ℕ
+  pub has : HasTaken (payloads_in given) items
   pub consumed : Consumes before now given
   pub live : IsLive limit offset items raw given
   pub turns : reads ≤ length given

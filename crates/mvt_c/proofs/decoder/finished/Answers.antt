@@ -1,8 +1,10 @@
-use Rattle.std.proofs.Common.{◌<◌, rules, sym, subst}
+use Rattle.std.proofs.Common.{◌<◌, rules, ap, sym, subst, ◌∙◌}
 use Rattle.std.proofs.lemmas.Bool.Decides.{nat_tests}
+use Rattle.mvt_rows.specs.ReadTables.{AreSameRows, read_table}
 use Rattle.mvt_rows.specs.Tables.{table_size}
 use Rattle.mvt_rows.specs.TileRows.{IsTileOf}
 use Rattle.std.proofs.lemmas.Result.{err_from_is_err_and}
+use Rattle.mvt_rows.proofs.RowsLaws.{same_rows_size}
 use Rattle.mvt_c.proofs.RefusalLemmas.{end_memory, end_shown}
 use Rattle.mvt_c.proofs.decoder.finished.Goals as goal
 
@@ -11,7 +13,8 @@ returns-then-not-is_within-clause-memory c = λ two none s stands.
     let (tile, is, valid, has) = c.in_ok-finish.ensures.tile tt s stands in
     let table = c.into_table-table.result in
     let beyond : c.args.decoder.most < table_size table = search (rules, nat_tests) in
-    (table, (tile, is, valid, subst (λ t. IsTileOf t tile) (sym c.into_table-table.ensures) has), beyond)
+    let size = ap table_size c.into_table-table.ensures ∙ same_rows_size _ (read_table s tile) has.1.rows in
+    (tile, is, valid, subst (λ n. c.args.decoder.most < n) size beyond)
 
 pub returns-in_err-finish-clause-refused : goal.returns-in_err-finish-clause-refused
 returns-in_err-finish-clause-refused c =
@@ -21,7 +24,13 @@ returns-in_err-finish-clause-refused c =
 pub returns-clause-done : goal.returns-clause-done
 returns-clause-done c = λ s stands.
     let (tile, is, valid, has) = c.in_ok-finish.ensures.tile tt s stands in
-    (tile, is, valid, subst (λ t. IsTileOf t tile) (sym c.into_table-table.ensures) has)
+    (
+      tile,
+      is,
+      valid,
+      subst (λ t. IsTileOf t tile) (sym c.into_table-table.ensures) has.0,
+      subst (λ t. AreSameRows t (read_table s tile)) (sym c.into_table-table.ensures) has.1.rows,
+    )
 
 pub returns-in_err-finish-clause-memory : goal.returns-in_err-finish-clause-memory
 returns-in_err-finish-clause-memory c =

@@ -14,16 +14,16 @@ returns-in-Ok-Layer-clause-item g c = λ items start.
     let reported = rw c.in-Ok-Layer.field-0-is at visited in
     let (layer, told, p) =
     layer_visited (λ r. g.V.RewriteVisitor.has_features items r.visitor [] [])
-    (λ keys values r features. HasWritten keys values r.writer features
+    (λ keys values r payloads features. HasWritten keys values r.writer features
     × g.V.RewriteVisitor.has_features items r.visitor features r.writer.features.items)
-    c.visit_version_2.new.visitor (Layer c.in-Ok-Layer.name c.in-Ok-Layer.extent)
+    payload c.visit_version_2.new.visitor (Layer c.in-Ok-Layer.name c.in-Ok-Layer.extent)
     (λ i. IsItem payload i × ValidItem i) (λ number content none. none) item reported (is, valid) in
-    let written = told.2.2.0 in (
+    let written = told.2.0 in (
       layer,
       p.0,
       p.1,
       told.0,
-      told.2.2.1,
+      told.2.1,
       layer_rewritten layer _ _ c.visit_version_2.new.visitor.writer.uses c.visit_version_2.new.visitor.writer.features.items told.0 told.1
           written.keys_are written.values_are written.written,
     )
@@ -35,9 +35,9 @@ returns-in-Ok-Foreign-clause-item g c = λ items start.
     let reported = rw c.in-Ok-Foreign.field-0-is at visited in
     let (number, content, told, p) =
     foreign_visited (λ r. g.V.RewriteVisitor.has_features items r.visitor [] [])
-    (λ keys values r features. HasWritten keys values r.writer features
+    (λ keys values r payloads features. HasWritten keys values r.writer features
     × g.V.RewriteVisitor.has_features items r.visitor features r.writer.features.items)
-    c.visit_version_2.new.visitor (Foreign c.in-Ok-Foreign.version)
+    payload c.visit_version_2.new.visitor (Foreign c.in-Ok-Foreign.version)
     (λ i. IsItem payload i × ValidItem i) (λ layer none. none) item reported (is, valid) in
     foreign_made (λ i. IsItem payload i × ValidItem i) {number = number} {content = content} payload c.in-Ok-Foreign.version
     (foreign_bytes payload number content p.0) told.0

@@ -20,5 +20,5 @@ returns-clause-layers g c =
     let names = map string_bytes c.args.names.now in
     let start = wants_layers 67108864 names c.in_ok-set_of.field-0.keys c.new-rewriter.result c.in_ok-set_of.ensures
     c.new-rewriter.ensures in
-    let (tile, has, distinct, is) = c.in_ok-taken.ensures.tile (is_among names) start in
+    let (payloads, tile, has, distinct, is) = c.in_ok-taken.ensures.tile (is_among names) start in
     (tile, c.in_ok-rewritten.ensures tile.items has, is)

@@ -6,5 +6,5 @@ pub returns-in-Ok-clause-ok : goal.returns-in-Ok-clause-ok
 returns-in-Ok-clause-ok g c =
     let found = c.args.found in
     let (given, start) = c.requires.start in
-    let taken = c.in-Ok.ensures.item given [] start in
+    let taken = c.in-Ok.ensures.item given [] [] start in
     item_or_fault_clean found.payload.now found.payload_at found.tag_at taken.0 taken.1

@@ -1,6 +1,7 @@
 use Rattle.std.proofs.Common.{◌≡◌, [], rules, arith, refl}
 use Rattle.std.proofs.lemmas.Grind.{common_steps}
 use Rattle.std.proofs.lemmas.Result.{err_from_is_err_and}
+use Rattle.mvt_tile.specs.Visiting.{payloads_in}
 use Rattle.mvt_tile.proofs.FeedingLemmas.{early_faults, fed_start, fed_more, fed_fails, fed_read, fed_reads, kept_is_none}
 use Rattle.mvt_tile.proofs.reading.feed_all.Goals as goal
 
@@ -17,7 +18,7 @@ pub take-requires-clause-few : goal.take-requires-clause-few
 take-requires-clause-few g c =
     let (input, start) = c.requires.start in
     let fed = c.loop-turn.invariant.fed input start in
-    (input, fed.items, fed.has, fed.few)
+    (input, payloads_in fed.given, fed.items, fed.has, fed.few)
 
 pub returns-in-Err-clause-stopped : goal.returns-in-Err-clause-stopped
 returns-in-Err-clause-stopped g c =
@@ -40,7 +41,7 @@ returns-in_err-take-clause-stopped g c =
     let fed = c.loop-turn.invariant.fed input start in
     rw (p.1, p.2)
     (fed_fails 67108864 _ _ _ _ _ _ _ fed c.read.new.buffer _ _ _ _ c.in-Ok.ensures.bytes.0 refl c.in-Ok.ensures.given (search rules)
-    (c.in_err-take.ensures.fault input fed.items fed.has))
+    (c.in_err-take.ensures.fault input (payloads_in fed.given) fed.items fed.has))
 
 pub returns-in_err-take-clause-reads : goal.returns-in_err-take-clause-reads
 returns-in_err-take-clause-reads g c =
@@ -56,14 +57,14 @@ returns-in_err-take-clause-faults g c =
     let fed = c.loop-turn.invariant.fed input start in
     rw (p.1, p.2) (early_faults c.in_err-take.field-0.0 _ (g.R.Source.state c.args.reader.now).faults
     (g.R.Source.state c.read.new.self).faults
-    (c.in_err-take.ensures.fault input fed.items fed.has fed.given fed.live) (search rules))
+    (c.in_err-take.ensures.fault input (payloads_in fed.given) fed.items fed.has fed.given fed.live) (search rules))
 
 pub loop-turn-preserved : goal.loop-turn-preserved
 loop-turn-preserved g c = record {
   fed = λ input start.
       let fed = c.loop-turn.invariant.fed input start in
       fed_more 67108864 _ _ _ _ _ _ _ fed c.read.new.buffer _ _ _ _ _ c.in-Ok.ensures.bytes.0 refl (omega arith) c.in-Ok.ensures.within
-      (c.in_ok-take.ensures.live input fed.items fed.has fed.few);
+      (c.in_ok-take.ensures.live input (payloads_in fed.given) fed.items fed.has fed.few);
   small = search rules;
   reads = search rules;
   asked = search rules;

@@ -6,8 +6,8 @@ use Rattle.mvt_tile.proofs.reading.feed_all.Given as goal
 
 abbrev pub invariant-loop-turn : goal.invariant-loop-turn
 invariant-loop-turn g l = record {
-  fed : (input : g.V.TileVisitor.Given) → HasTaken (g.V.TileVisitor.has_items input) l.initial.partial.taken []
-      → HasFed 67108864 (HasTaken (g.V.TileVisitor.has_items input) l.partial.taken) l.partial.offset l.partial.raw.items
+  fed : (input : g.V.TileVisitor.Given) → HasTaken (g.V.TileVisitor.has_items input []) l.initial.partial.taken []
+      → HasFed 67108864 (λ payloads. HasTaken (g.V.TileVisitor.has_items input payloads) l.partial.taken) l.partial.offset l.partial.raw.items
       (g.R.Source.state l.initial.reader).left (g.R.Source.state l.reader).left l._turn;
   small : l.partial.offset + length l.partial.raw.items ≤ 67108864;
   reads : (g.R.Source.state l.reader).reads ≤ (g.R.Source.state l.initial.reader).reads + l._turn;

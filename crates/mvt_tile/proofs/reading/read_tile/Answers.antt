@@ -8,10 +8,10 @@ returns-in_err-taken-clause-read g c =
 
 pub returns-clause-tile : goal.returns-clause-tile
 returns-clause-tile g c =
-    let (tile, has, distinct, is) = c.in_ok-taken.ensures.tile tt c.new.ensures in
+    let (payloads, tile, has, distinct, is) = c.in_ok-taken.ensures.tile tt c.new.ensures in
     rw (c.into_tile.ensures, has.2) is
 
 pub returns-clause-valid : goal.returns-clause-valid
 returns-clause-valid g c =
-    let (tile, has, distinct, is) = c.in_ok-taken.ensures.tile tt c.new.ensures in
+    let (payloads, tile, has, distinct, is) = c.in_ok-taken.ensures.tile tt c.new.ensures in
     rw (c.into_tile.ensures, has.2) (record { items = has.1; names = distinct })

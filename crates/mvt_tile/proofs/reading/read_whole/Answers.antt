@@ -1,9 +1,10 @@
-use Rattle.std.proofs.Common.{IfSome, arith}
+use Rattle.std.proofs.Common.{ℕ, List, IfSome, arith}
 use Rattle.std.proofs.lemmas.Result.{err_from_is_err_and, IfOk-weaker, IfErr-weaker}
 use Rattle.mvt_tile_value.specs.declared.tile.Tile.{Tile}
 use Rattle.mvt_tile_value.specs.Tiles.{HasDistinctNames, IsTile}
 use Rattle.mvt_tile.specs.Inner.Taking.{HasTaken}
 use Rattle.mvt_tile.specs.TileRules.{fault_within}
+use Rattle.mvt_tile.specs.Visiting.{payloads_in}
 use Rattle.mvt_tile.proofs.FeedingLemmas.{end_faults, stopped_reported, stopped_early, fed_early, fed_tile, fed_reported}
 use Rattle.mvt_tile.proofs.reading.read_whole.Goals as goal
 
@@ -42,9 +43,11 @@ pub returns-clause-tile : goal.returns-clause-tile
 returns-clause-tile g c = λ input start.
     let fed = c.in_ok-feed_all.ensures.fed input (c.new-partial.ensures.taken input start) in
     IfOk-weaker c.finish.result _
-    (λ taken. (tile : Tile) × HasTaken (g.V.TileVisitor.has_items input) taken tile.items
+    (λ taken. (payloads : List (List ℕ)) × (tile : Tile) × HasTaken (g.V.TileVisitor.has_items input payloads) taken tile.items
     × HasDistinctNames tile.items × IfSome (g.R.Source.state c.args.reader.now).left (λ bytes. IsTile 67108864 bytes tile))
-    (λ taken done. rw done.0 (fed_tile 67108864 _ _ _ _ _ _ fed c.in_ok-feed_all.ensures.end done.1))
+    (λ taken done.
+    let told = fed_tile 67108864 _ _ _ _ _ _ fed c.in_ok-feed_all.ensures.end done.1 in
+    rw done.0 (payloads_in fed.given, told.0, told.1, told.2, told.3))
     (c.finish.ensures.tile fed.items fed.given fed.live)
 
 pub returns-clause-fault : goal.returns-clause-fault

@@ -9,7 +9,7 @@ read_whole-requires g c = record { start = (all_items, c.of_all.ensures) }
 
 pub returns-clause-tile : goal.returns-clause-tile
 returns-clause-tile g c =
-    let (tile, has, distinct, is) = c.in_ok-visitor.ensures.tile all_items c.of_all.ensures in (
+    let (payloads, tile, has, distinct, is) = c.in_ok-visitor.ensures.tile all_items c.of_all.ensures in (
       tile,
       tile_encoded 67108864 tile _ has.2.encoded,
       IfSome_then (g.R.Source.state c.args.reader.now).left is (λ input of. (of, record { items = has.1; names = distinct })),

@@ -6,7 +6,7 @@ use Rattle.mvt_message.proofs.RewriteLemmas.{written_more, used_keys, used_value
 use Rattle.mvt_message.proofs.layer_rewriting.LayerRewriterLayerVisitor.visit_feature.Goals as goal
 
 pub returns-clause-feature : goal.returns-clause-feature
-returns-clause-feature g c = λ items held features are has.
+returns-clause-feature g c = λ items held payloads features are has.
     let old = c.args.self.now.writer.uses in
     let new = c.rewrite_feature.new.uses in
     let before = c.args.self.now.writer.features.items in

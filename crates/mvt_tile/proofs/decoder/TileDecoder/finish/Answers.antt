@@ -12,4 +12,4 @@ returns-clause-tile c = λ s stands.
     rw (c.into_tile.ensures, has) is
 
 pub returns-clause-valid : goal.returns-clause-valid
-returns-clause-valid c = let (given, tile, valid, has) = c.in_ok-keeper.ensures.valid in rw (c.into_tile.ensures, has) valid
+returns-clause-valid c = let (given, s, tile, valid, has) = c.in_ok-keeper.ensures.valid in rw (c.into_tile.ensures, has) valid

@@ -5,7 +5,7 @@ use Rattle.mvt_message.proofs.MessageLaws.{item_names, item_or_fault_there, read
 use Rattle.mvt_tile.proofs.judging.ItemJudgeTileVisitor.visit_item.Goals as goal
 
 pub returns-in_ok-text_of-in-Ok-clause-item : goal.returns-in_ok-text_of-in-Ok-clause-item
-returns-in_ok-text_of-in-Ok-clause-item c = λ given items has.
+returns-in_ok-text_of-in-Ok-clause-item c = λ given payloads items has.
     let d = c.args.payload.now in
     let (item, is) = item_or_fault_there d c.args.payload_at c.args.tag_at c.in-Ok.ensures.ok in
     let named = item_names d item is ∙ sym (ap option_to_list c.in_ok-text_of-in-Ok.ensures ∙ c.in-Ok.ensures.names) in

@@ -25,6 +25,7 @@ returns-clause-valid g c =
     let (given, s, visited) = rw c.in_default.is at c.self.invariant in
     let done = c.in_ok-taken.ensures.tile visited.items s visited.live in (
       given,
+      s,
       record { items = visited.items },
       record { items = visited.has.1; names = done.1.distinct },
       rw done.0 visited.has.2,

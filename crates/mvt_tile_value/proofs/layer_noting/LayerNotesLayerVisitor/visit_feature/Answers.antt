@@ -3,7 +3,7 @@ use Rattle.mvt_feature.specs.declared.feature.Feature.{Feature}
 use Rattle.mvt_tile_value.proofs.layer_noting.LayerNotesLayerVisitor.visit_feature.Goals as goal
 
 pub returns-clause-feature : goal.returns-clause-feature
-returns-clause-feature c = λ items held features are has.
+returns-clause-feature c = λ items held payloads features are has.
     let drawn = c.in_ok-known.ensures.feature (length items) (length features) has.1 held are in
     let f : Feature = record { id = c.in_ok-known.known.id; attributes = drawn.attributes; geometry = drawn.geometry } in (
       f,

@@ -1,20 +1,19 @@
 use Rattle.std.proofs.Common.{ℕ, [], ◌∷◌, arith, List, length, refl, ap, sym, subst}
-use Rattle.mvt_attrs.specs.declared.value.Value.{Value}
-use Rattle.mvt_feature.specs.declared.feature.Feature.{Feature}
 use Rattle.mvt_message.specs.declared.item.Item.{Item}
 use Rattle.mvt_message.specs.declared.item.Item.TheVariants.{Layer, Foreign}
 use Rattle.mvt_message.specs.Items.{IsItem}
 use Rattle.mvt_message.specs.ValidItems.{ValidItem}
+use Rattle.mvt_message.specs.Visiting.{OfFeatures}
 use Rattle.mvt_tile_value.specs.declared.layer_noting.LayerNotes.{LayerNotes}
 use Rattle.mvt_tile_value.specs.Findings.{AreNotedSoFar}
 use Rattle.mvt_tile_value.proofs.SurveyLemmas.{foreign_told, layer_other, layer_told}
 use Rattle.mvt_tile_value.proofs.survey_builder.SurveyBuilder.add_other.Goals as goal
 
-abbrev HasItems : List Item → LayerNotes → Type 0
-HasItems items noted = AreNotedSoFar (length items) noted []
+abbrev HasGiven : List Item → LayerNotes → Type 0
+HasGiven items noted = AreNotedSoFar (length items) noted []
 
-abbrev HasFeatures : List Item → List (List ℕ) → List Value → LayerNotes → List Feature → Type 0
-HasFeatures items keys values noted features = AreNotedSoFar (length items) noted features
+abbrev HasFeatures : List Item → OfFeatures LayerNotes
+HasFeatures items keys values noted payloads features = AreNotedSoFar (length items) noted features
 
 pub visit_version_2-requires-clause-start : goal.visit_version_2-requires-clause-start
 visit_version_2-requires-clause-start c =
@@ -27,9 +26,9 @@ returns-in-Ok-Layer-clause-found c = λ input items found count.
     let (item, is, valid, visited) = c.in-Ok-Layer.ensures.item items start start in
     let reported = rw c.in-Ok-Layer.field-0-is at visited in
     let (layer, has, both) =
-    layer_told (HasItems items) (HasFeatures items) c.visit_version_2.new.visitor c.in-Ok-Layer.name c.in-Ok-Layer.field-0-1
+    layer_told (HasGiven items) (HasFeatures items) c.args.payload.now c.visit_version_2.new.visitor c.in-Ok-Layer.name c.in-Ok-Layer.field-0-1
     (λ i. IsItem c.args.payload.now i × ValidItem i) item reported (is, valid) in
-    let noted = subst (λ n. AreNotedSoFar n c.visit_version_2.new.visitor layer.features) count has.2.2 in (
+    let noted = subst (λ n. AreNotedSoFar n c.visit_version_2.new.visitor layer.features) count has.2 in (
       Layer layer,
       both.0,
       both.1,
@@ -47,7 +46,7 @@ returns-in-Ok-Foreign-clause-found c = λ input items found count.
     let (item, is, valid, visited) = c.in-Ok-Foreign.ensures.item items start start in
     let reported = rw c.in-Ok-Foreign.field-0-is at visited in
     let same =
-    foreign_told (HasItems items) (HasFeatures items) c.visit_version_2.new.visitor c.in-Ok-Foreign.version c.args.payload.now item
+    foreign_told (HasGiven items) (HasFeatures items) c.args.payload.now c.visit_version_2.new.visitor c.in-Ok-Foreign.version item
     reported is in (
       Foreign c.in-Ok-Foreign.version c.args.payload.now,
       subst (IsItem c.args.payload.now) same is,

@@ -1,67 +1,104 @@
-use Rattle.std.proofs.Common.{ℕ, List, [], ◌∷◌, ◌++◌, sym, subst}
-use Rattle.mvt_attrs.specs.declared.value.Value.{Value}
-use Rattle.mvt_feature.specs.declared.feature.Feature.{Feature}
+use Rattle.std.proofs.Common.{◌≡◌, ℕ, List, [], ◌∷◌, ◌++◌, refl, sym, ap, ◌∙◌, subst}
+use Rattle.std.specs.List.{fold}
+use Rattle.mvt_wire.specs.Split.{split}
 use Rattle.mvt_message.specs.declared.item.Item.{Item}
+use Rattle.mvt_message.specs.declared.item.Item.TheVariants.{Layer as ALayer, Foreign as AForeign}
 use Rattle.mvt_message.specs.declared.visiting.Visited.TheVariants.{Layer, Foreign}
 use Rattle.mvt_message.specs.Items.{IsItem}
+use Rattle.mvt_message.specs.LayerFields.{keys_in, values_in}
 use Rattle.mvt_message.specs.ValidItems.{ValidItem}
+use Rattle.mvt_message.specs.Visiting.{OfFeatures}
+use Rattle.mvt_rows.specs.declared.places.Places.{Places}
 use Rattle.mvt_rows.specs.declared.table.visiting.RowsVisitor.{RowsVisitor}
-use Rattle.mvt_rows.specs.Visiting.{AreItemRows, AreLayerRows}
+use Rattle.mvt_rows.specs.ReadTables.{AreSameRows, with_item}
+use Rattle.mvt_rows.specs.Tables.{Table, with_foreign, with_layer_row, without_values}
+use Rattle.mvt_rows.specs.Visiting.{AreItemRows, AreLayerRows, HasRead, HasReadFeatures}
+use Rattle.mvt_rows.proofs.ReadTableLemmas.{item_read, layer_read, same_of, values_kept}
 use Rattle.mvt_rows.proofs.VisitLemmas.{layer_opened, layer_ends, foreign_ends, was_layer, was_foreign}
 use Rattle.mvt_rows.proofs.table.visiting.RowsVisitorTileVisitor.visit_item.Goals as goal
 
--- what the visitor has of items, and of features
-abbrev HasItems : List Item → RowsVisitor → Type 0
-HasItems items rows = AreItemRows rows.table items
+-- what the visitor has of the table before, and of features
+abbrev HasGiven : Table → RowsVisitor → Type 0
+HasGiven before rows = without_values rows.table rows.opened ≡ before
 
-abbrev HasFeatures : List Item → List (List ℕ) → List Value → RowsVisitor → List Feature → Type 0
-HasFeatures items keys values rows features = AreLayerRows rows.table rows.opened items keys values features
+abbrev HasFeatures : Table → List Item → OfFeatures RowsVisitor
+HasFeatures before items keys values rows payloads features =
+    AreLayerRows rows.table rows.opened items keys values features
+    × HasReadFeatures before rows.table rows.opened keys values payloads features
 
-pub visit_layer-requires-clause-start : goal.visit_layer-requires-clause-start
-visit_layer-requires-clause-start c =
-    let (given, items, are, few) = c.requires.known in (
-      items,
-      layer_opened c.args.self.now.table c.places-self.result items c.places-self.ensures.features c.places-self.ensures.keys
-          c.places-self.ensures.values are,
+pub visit_version_2-requires-clause-start : goal.visit_version_2-requires-clause-start
+visit_version_2-requires-clause-start c =
+    let (given, payloads, items, has, few) = c.requires.known in
+    let at = c.places-self.ensures in (
+      (c.args.self.now.table, items),
+      (
+        layer_opened c.args.self.now.table c.places-self.result items (ap (λ (p : Places). p.features) at)
+            (ap (λ (p : Places). p.keys) at) (ap (λ (p : Places). p.values) at) has.0,
+        (at, refl),
+      ),
     )
 
 pub returns-in_ok-from_str-in-Ok-Layer-clause-item : goal.returns-in_ok-from_str-in-Ok-Layer-clause-item
-returns-in_ok-from_str-in-Ok-Layer-clause-item c = λ given items are.
+returns-in_ok-from_str-in-Ok-Layer-clause-item c = λ given payloads items are.
+    let at = c.places-self.ensures in
+    let before = c.args.self.now.table in
+    let payload = c.args.payload.now in
+    let fields = (split payload).fields in
     let start =
-    layer_opened c.args.self.now.table c.places-self.result items c.places-self.ensures.features c.places-self.ensures.keys
-    c.places-self.ensures.values are in
-    let (item, is, valid, visited) = c.in-Ok-Layer.ensures.item items start are in
+    layer_opened before c.places-self.result items (ap (λ (p : Places). p.features) at) (ap (λ (p : Places). p.keys) at)
+    (ap (λ (p : Places). p.values) at) are.0 in
+    let (item, is, valid, visited) =
+    c.in-Ok-Layer.ensures.item (before, items) (start, (at, refl)) (values_kept before before c.places-self.result [] (at, refl)) in
     let reported = rw c.in-Ok-Layer.field-0-is at visited in
-    let rows = c.visit_layer.new.visitor in
+    let rows = c.visit_version_2.new.visitor in
+    let name = c.in-Ok-Layer.name.now in
+    let extent = c.in-Ok-Layer.extent in
     let (layer, has, facts) =
-    was_layer (HasItems items) (HasFeatures items) rows (Layer c.in-Ok-Layer.name c.in-Ok-Layer.extent)
-    (λ i. IsItem c.args.payload.now i × ValidItem i) (λ number content none. none) item reported (is, valid) in
+    was_layer (HasGiven before) (HasFeatures before items) payload rows (Layer c.in-Ok-Layer.name extent)
+    (λ i. IsItem payload i × ValidItem i) (λ number content none. none) item reported (is, valid) in
     let ended =
-    layer_ends c.args.payload.now rows.table rows.opened items c.in-Ok-Layer.name.now c.in_ok-from_str-in-Ok-Layer.field-0
-    c.in-Ok-Layer.extent layer has.2.0 has.2.1 facts.0 facts.1 has.0 has.1 c.in_ok-from_str-in-Ok-Layer.ensures.same has.2.2 in (
+    layer_ends rows.table rows.opened items name c.in_ok-from_str-in-Ok-Layer.field-0 extent layer (keys_in fields) (values_in fields)
+    facts.1 has.0 has.1 c.in_ok-from_str-in-Ok-Layer.ensures.same has.2.0 in
+    let added = c.in_ok-add_layer_row-in-Ok-Layer.ensures in
+    let read = subst (λ open_at. AreSameRows (with_layer_row rows.table name extent open_at) (with_item before payload (ALayer layer)))
+    (sym has.2.1.opened)
+    (layer_read before rows.table payload name extent layer has.0 has.1 has.2.1.rows) in (
+      ALayer layer,
+      facts.0,
+      facts.1,
       ended.0,
-      ended.1,
-      ended.2,
-      ended.3,
-      subst (λ t. AreItemRows t (items ++ ended.0 ∷ [])) (sym c.in_ok-add_layer_row-in-Ok-Layer.ensures) ended.4,
+      (
+        subst (λ t. AreItemRows t (items ++ ALayer layer ∷ [])) (sym added) ended.1,
+        item_read before _ payloads items payload (ALayer layer) are.1
+            (subst (λ t. AreSameRows t (with_item before payload (ALayer layer))) (sym added) read),
+      ),
     )
 
 pub returns-in_ok-keep_within-in-Ok-Foreign-clause-item : goal.returns-in_ok-keep_within-in-Ok-Foreign-clause-item
-returns-in_ok-keep_within-in-Ok-Foreign-clause-item c = λ given items are.
+returns-in_ok-keep_within-in-Ok-Foreign-clause-item c = λ given payloads items are.
+    let at = c.places-self.ensures in
+    let before = c.args.self.now.table in
+    let payload = c.args.payload.now in
     let start =
-    layer_opened c.args.self.now.table c.places-self.result items c.places-self.ensures.features c.places-self.ensures.keys
-    c.places-self.ensures.values are in
-    let (item, is, valid, visited) = c.in-Ok-Foreign.ensures.item items start are in
+    layer_opened before c.places-self.result items (ap (λ (p : Places). p.features) at) (ap (λ (p : Places). p.keys) at)
+    (ap (λ (p : Places). p.values) at) are.0 in
+    let (item, is, valid, visited) =
+    c.in-Ok-Foreign.ensures.item (before, items) (start, (at, refl)) (values_kept before before c.places-self.result [] (at, refl)) in
     let reported = rw c.in-Ok-Foreign.field-0-is at visited in
-    let rows = c.visit_layer.new.visitor in
+    let rows = c.visit_version_2.new.visitor in
+    let version = c.in-Ok-Foreign.version in
     let (number, content, has, facts) =
-    was_foreign (HasItems items) (HasFeatures items) rows (Foreign c.in-Ok-Foreign.version)
-    (λ i. IsItem c.args.payload.now i × ValidItem i) (λ layer none. none) item reported (is, valid) in
-    let ended =
-    foreign_ends c.args.payload.now rows.table items c.in-Ok-Foreign.version number content facts.0 facts.1 has.0 has.1 in (
-      ended.0,
-      ended.1,
-      ended.2,
-      ended.3,
-      subst (λ t. AreItemRows t (items ++ ended.0 ∷ [])) (sym c.in_ok-add_foreign-in-Ok-Foreign.ensures) ended.4,
+    was_foreign (HasGiven before) (HasFeatures before items) payload rows (Foreign version)
+    (λ i. IsItem payload i × ValidItem i) (λ layer none. none) item reported (is, valid) in
+    let ended = foreign_ends payload before items version number content facts.0 facts.1 has.0 are.0 in
+    let added = c.in_ok-add_foreign-in-Ok-Foreign.ensures
+    ∙ ap (λ t. with_foreign t version payload) (c.forget_values.ensures ∙ has.1) in (
+      AForeign number content,
+      facts.0,
+      facts.1,
+      refl,
+      (
+        subst (λ t. AreItemRows t (items ++ AForeign number content ∷ [])) (sym added) ended.0,
+        item_read before _ payloads items payload (AForeign number content) are.1 (same_of _ _ (added ∙ ended.1)),
+      ),
     )
