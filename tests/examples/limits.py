@@ -15,6 +15,9 @@ WHOLE, LONGER, ENDLESS = "0AFBFFFF1F", "0AFCFFFF1F", "0A 808080808080808080 01"
 # A layer that ends at the limit, and begins its name. Its extent isn't there: the canonical form is longer.
 NAMED = "1AFBFFFF1F 7802 0AF4FFFF1F"
 NAME = "a" * 67_108_852
+# The same with a name of two and of three bytes less: the canonical bytes are one more than the limit, and as many.
+ONE_OVER, FULL = "1AF9FFFF1F 7802 0AF2FFFF1F", "1AF8FFFF1F 7802 0AF1FFFF1F"
+FILLED = octets("1AFBFFFF1F 7802 0AF1FFFF1F") + b"a" * 67_108_849 + octets("288020")
 TITLE = DRAWN[len(PICTURE) :].partition("a</title>")[0]
 
 
@@ -37,6 +40,10 @@ def runs():
     report = "ok layers 1 features 0 canonical no\nnote NoFeatures layer 0\n"
     yield ["check"], NAMED, ord("a"), 0, (0, report, "")
     yield ["rewrite"], NAMED, ord("a"), 0, (1, "", "mvt: result larger than 67108864 bytes\n")
+    yield ["check"], ONE_OVER, ord("a"), -2, (0, report, "")
+    yield ["rewrite"], ONE_OVER, ord("a"), -2, (1, "", "mvt: result larger than 67108864 bytes\n")
+    yield ["check"], FULL, ord("a"), -3, (0, report, "")
+    yield ["rewrite"], FULL, ord("a"), -3, (0, FILLED, "")
     shown = '{"layers":[{"extent":4096,"features":[],"name":"%s"}]}\n' % NAME
     yield ["show"], NAMED, ord("a"), 0, (0, shown, "")
     drawn = PICTURE + TITLE + NAME + "</title>\n</svg>\n</svg>\n"

@@ -1,16 +1,19 @@
 #!/usr/bin/env python3
 """Tiles of the sizes at which code could turn, each through each command: sizes.py PROGRAM
 
-None, one and two of a kind, around each bound up to which entries are compared one by one or texts lie in place, a
-hundred and a thousand, the ends of ranges, and a layer of each kind. With ample memory no command may report that it is
-out of memory. This script makes a tile's canonical bytes and its JSON by itself, and compares them with what the
-program says. The last line is 'sizes: N passed, M failed'."""
+None, one and two of a kind, around each bound up to which entries are compared one by one, are found by their places or
+texts lie in place, a hundred and a thousand, the ends of ranges, a layer of each kind, and layers that aren't canonical
+or break a rule at their end. With ample memory no command may report that it is out of memory. This script makes a tile's
+canonical bytes and its JSON by itself, and compares them with what the program says. The last line is
+'sizes: N passed, M failed'."""
 
 import json
 import subprocess
 import sys
 
 COUNTS = [0, 1, 2, 7, 8, 9, 15, 16, 17, 32, 33, 34, 48, 49, 100, 1000]
+# So many keys and as many values in a layer.
+MANY = [65_536, 65_537, 70_000]
 LENGTHS = [0, 1, 13, 14, 15, 16, 100, 127, 128, 1000]
 EXTENTS = [0, 1, 127, 128, 4095, 4096, 4097, 2**32 - 1]
 IDS = [0, 1, 127, 128, 2**32, 2**64 - 1]
@@ -102,6 +105,25 @@ def layer_bytes(layer):
     return payload + field(5, layer["extent"])
 
 
+def awkward_bytes(layer):
+    """A payload of the same layer that isn't canonical: its version stands last, and keys and values in front of the
+    features, each list from its last entry to its first behind one that nothing names."""
+    attributes = [it for feature in layer["features"] for it in feature["attributes"]]
+    keys = [None, *reversed(first_uses(key for key, _ in attributes))]
+    values = [None, *reversed(first_uses(next(iter(value.items())) for _, value in attributes))]
+    key_at = {key: index for index, key in enumerate(keys)}
+    value_at = {value: index for index, value in enumerate(values)}
+    payload = field(5, layer["extent"]) + field(3, b"unused") + b"".join(field(3, key.encode()) for key in keys[1:])
+    payload += field(4, field(1, b"unused")) + b"".join(field(4, value_bytes(*value)) for value in values[1:])
+    for feature in layer["features"]:
+        ((kind, shape),) = feature["geometry"].items()
+        body = field(3, KINDS[kind]) + field(4, b"".join(map(varint, integers_of(kind, shape))))
+        tags = [n for key, value in feature["attributes"] for n in (key_at[key], value_at[next(iter(value.items()))])]
+        body += field(2, b"".join(map(varint, tags)))
+        payload += field(2, body + (b"" if feature["id"] is None else field(1, feature["id"])))
+    return payload + field(1, layer["name"].encode()) + b"\x78\x02"
+
+
 def feature(attributes=(), identifier=None, kind="points", shape=((25, 17),)):
     shape = [list(point) for point in shape] if kind == "points" else shape
     return {"attributes": [list(it) for it in attributes], "geometry": {kind: shape}, "id": identifier}
@@ -161,10 +183,19 @@ def tiles():
     yield "the ends of positions", drawn("points", [[far, 0], [0, -far], [0, 0], [-far, 0]])
     foreign = {"foreign": {"length": 5, "version": 1}}
     yield "a layer of each kind", [layer([feature()], "a"), foreign, layer(name="b")]
+    for count in MANY:
+        yield f"{count} attributes", [layer([feature(numbered(count)), feature(numbered(2))])]
+    for count in [0, 1, 16, 70_000]:
+        foreign = {"foreign": {"length": 8 + 4 * count, "version": 3}}
+        yield f"a layer of version 3 with {count} values", [foreign, layer([feature(numbered(2))])]
 
 
 def payload_of(item):
-    return layer_bytes(item) if "name" in item else b"\x78\x01\x0a\x01\x61"
+    """The canonical payload. That of version 1 begins with its version; in that of version 3 it stands behind the values."""
+    if "name" in item:
+        return layer_bytes(item)
+    length, version = item["foreign"]["length"], item["foreign"]["version"]
+    return b"\x78\x01\x0a\x01\x61" if version == 1 else b"\x0a\x01\x61" + b"\x22\x02\x28\x01" * (length // 4 - 2) + b"\x78\x03\x1a\x01k"
 
 
 def run(program, words, tile):
@@ -200,12 +231,36 @@ def wrong_answers(program, layers):
             yield words[0], status, told
 
 
+def awkward_answers(program, layer):
+    """What is answered otherwise of a layer that isn't canonical, and of one whose last feature names a key too many."""
+    tile, canonical = field(3, awkward_bytes(layer)), field(3, layer_bytes(layer))
+    ok = f"ok layers 1 features {len(layer['features'])} canonical no\n".encode()
+    keys = len(first_uses(key for feature in layer["features"] for key, _ in feature["attributes"]))
+    broken = field(3, layer_bytes(layer) + field(2, field(2, varint(keys) + b"\x00") + b"\x18\x01\x22\x03\x09\x32\x22"))
+    fault = f"layer 0 feature {len(layer['features'])} at 0: 14 KeyIndex\n".encode()
+    for words, given, wanted in [
+        (["rewrite"], tile, (0, canonical, b"")),
+        (["check"], tile, (0, ok, b"")),
+        (["rewrite"], broken, (1, b"", fault)),
+        (["check"], broken, (1, b"", fault)),
+        (["show"], broken, (1, b"", fault)),
+    ]:
+        ran = subprocess.run([program, *words], input=given, capture_output=True)
+        found = ran.returncode, ran.stdout[: len(ok)] if words == ["check"] else ran.stdout, ran.stderr
+        if found != wanted:
+            yield f"{words[0]} of another form", ran.returncode, ran.stdout + ran.stderr
+
+
 def main():
     passed = failed = 0
     for name, layers in tiles():
         wrong = list(wrong_answers(sys.argv[1], layers))
+        asked = 5 + any("name" in item for item in layers)
+        if len(layers) == 1 and "name" in layers[0]:
+            wrong += awkward_answers(sys.argv[1], layers[0])
+            asked += 5
         failed += len(wrong)
-        passed += 5 + any("name" in item for item in layers) - len(wrong)
+        passed += asked - len(wrong)
         for command, status, told in wrong:
             print(f"failed: {command} of {name}: status {status}, {told[:200]!r}")
     print(f"sizes: {passed} passed, {failed} failed")

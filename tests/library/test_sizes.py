@@ -46,6 +46,16 @@ class Sizes(unittest.TestCase):
         wanted = b"".join(bytes for _, bytes in named)
         self.assertEqual(mvt.extract(tile, [name for name, _ in named]), wanted)
 
+    def test_as_many_canonical_bytes_as_the_limit(self):
+        """A layer's extent isn't there, so the canonical bytes are three more than these."""
+        full = bytes.fromhex("1af8ffff1f78020af1ffff1f") + b"a" * 67_108_849
+        self.assertEqual(len(mvt.rewrite(full)), 67_108_864)
+        self.assertEqual(len(mvt.write(mvt.read(full))), 67_108_864)
+        over = bytes.fromhex("1af9ffff1f78020af2ffff1f") + b"a" * 67_108_850
+        for call in (mvt.rewrite, lambda tile: mvt.write(mvt.read(tile))):
+            with self.assertRaises(mvt.TooLarge):
+                call(over)
+
 
 if __name__ == "__main__":
     unittest.main()
