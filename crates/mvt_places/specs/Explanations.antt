@@ -2,8 +2,7 @@
 use Rattle.std.specs.Prelude.{ℕ, ◌+◌, ◌-◌, ◌/◌, ◌%◌, ◌==◌, ◌&&◌, List, [], ◌∷◌, ◌++◌, length, min, slice_range, nat_lt, Option, Some, None, Result, Ok, Err, codes, if◌then◌else◌}
 use Rattle.std.specs.Fmt.{decimal}
 use Rattle.std.specs.Str.Lossy.{utf8_lossy}
-use Rattle.serde_json.specs.Data.{string}
-use Rattle.serde_json.specs.Written.{compact_text}
+use Rattle.json.specs.Print.{quoted}
 use Rattle.mvt_wire.specs.declared.fault.WireCause.{WireCause}
 use Rattle.mvt_wire.specs.Fronts.{number_at}
 use Rattle.mvt_tile.specs.declared.fault.Fault.{Fault}
@@ -18,7 +17,7 @@ use Rattle.mvt_places.specs.Sentences.{sentence_for}
 -- a name as JSON; bytes that are no UTF-8 are shown by U+FFFD
 abbrev pub name_text : Option (List ℕ) → List ℕ
 name_text None = []
-name_text (Some name) = codes " " ++ compact_text (string (utf8_lossy name))
+name_text (Some name) = codes " " ++ quoted (utf8_lossy name)
 
 -- a number behind a word, where there is one
 abbrev pub told : List ℕ → Option ℕ → List ℕ

@@ -1,9 +1,6 @@
 //! What is said of a refused tile, line by line.
 ghost use Rattle.std.specs.Prelude.{◌≡◌, ◌+◌, ◌-◌, ◌^◌, ◌<◌, ◌≤◌, ◌++◌, length, IfOk, OnOk, string_bytes};
 ghost use Rattle.std.specs.Option.{option_copied};
-ghost use Rattle.std.specs.Str.Lossy.{utf8_lossy};
-ghost use Rattle.serde_json.specs.Data.{string};
-ghost use Rattle.serde_json.specs.Written.{compact_text};
 ghost use Rattle.mvt_wire.specs.Fronts.{number_at};
 ghost use Rattle.mvt_places.specs.Messages.{span};
 ghost use Rattle.mvt_places.specs.Explanations as spec;
@@ -16,9 +13,8 @@ use crate::span::Span;
 use crate::target::{Target, target_of};
 use mvt_base::LIMIT;
 use mvt_tile::Fault;
-use mvt_view::ViewError;
+use mvt_view::{ViewError, push_quoted};
 use mvt_wire::read_varint;
-use serde_json::Value as Json;
 use std::alloc::{AllocError, Global};
 use std::fmt::Write;
 
@@ -88,16 +84,8 @@ fn push_name(alloc: Global, text: &mut String, name: Option<&[u8]>) -> Result<()
     let Some(name) = name else {
         return Ok(());
     };
-    let shown = json_name(alloc, name)?;
     text.push_str(" ")?;
-    text.push_str(shown.as_str())
-}
-
-fn json_name(alloc: Global, name: &[u8]) -> Result<String, AllocError>
-    ensures { IfOk result (λ text.
-        string_bytes text ≡ compact_text (string (utf8_lossy name.now))) }
-{
-    Json::String(String::from_utf8_lossy(alloc, name)?).to_string(alloc)
+    push_quoted(text, &String::from_utf8_lossy(alloc, name)?)
 }
 
 /// Appends a number behind a word, where there is one.

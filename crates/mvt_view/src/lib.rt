@@ -17,6 +17,7 @@ mod xml;
 
 pub use fault::fault_text;
 pub use fields::{FieldsText, fields_text};
+pub use quoted::push_quoted;
 pub use report::{report_text, survey_text};
 pub use svg::svg_text;
 pub use tile_json::{json_of, json_text};

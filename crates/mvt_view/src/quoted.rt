@@ -15,7 +15,7 @@ const SHORT: usize = 256;
 const BLOCK: usize = 32;
 
 /// Appends a text as a string of JSON.
-pub(crate) fn push_quoted(text: &mut String, plain: &str) -> Result<(), AllocError>
+pub fn push_quoted(text: &mut String, plain: &str) -> Result<(), AllocError>
     ensures { OnOk result (string_bytes text.new ≡ string_bytes text.old ++ quoted plain.now) }
 {
     text.push_str("\"")?;
