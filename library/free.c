@@ -1,5 +1,5 @@
 /* What C does for itself: it gives back what the library handed out, where a list without entries has no block,
- * takes the name of a layer apart, and answers a decoder that isn't there. */
+ * takes the name of a layer apart, answers a decoder that isn't there, and hands out the text of a sentence. */
 #include "mvt.h"
 
 #include <stdlib.h>
@@ -76,4 +76,12 @@ void mvt_decoder_free(mvt_decoder *decoder) {
     const held last = {decoder->held};
     decoder->held = NULL;
     if (last.decoder != NULL) mvt_held_free(last);
+}
+
+/* The proved call hands the sentence out as bytes, the last of them a zero. */
+uint32_t mvt_held_sentence(const uint8_t *bytes, size_t len, const mvt_fault *fault, mvt_bytes *out);
+
+const char *mvt_explain(const uint8_t *bytes, size_t len, const mvt_fault *fault) {
+    mvt_bytes said = {NULL, 0};
+    return mvt_held_sentence(bytes, len, fault, &said) ? (const char *)said.data : "A rule is broken.";
 }

@@ -337,15 +337,18 @@ const char *mvt_version(void);
 const char *mvt_status_text(uint32_t status);
 
 /* A fault in plain words: a sentence or two. The bytes are those that were refused, of which the first few are enough;
- * where they look compressed (by gzip or zlib) the words say so. */
+ * where they look like gzip, zlib, zstd, PNG, SQLite, PMTiles, JSON or HTML, the words say so. */
 const char *mvt_explain(const uint8_t *bytes, size_t len, const mvt_fault *fault);
 
-/* What refused bytes tell of the place of their fault. The name is a part of these bytes, and may be no UTF-8. */
+/* What refused bytes tell of the place of their fault. The name is a part of these bytes, and may be no UTF-8. The fault
+ * is about the bytes from `start` up to `end`: its field, or the number in the tags or the geometry that `at` counts. Where
+ * `start` is `end`, it stands before that byte. A layer or a feature that isn't there puts it at the end of the bytes. */
 typedef struct {
     mvt_bytes layer_name;
     uint32_t has_layer_name; /* 1 or 0 */
     uint32_t has_feature_id; /* 1 or 0 */
     uint64_t feature_id;
+    uint64_t start, end;
 } mvt_place;
 void mvt_locate(const uint8_t *bytes, size_t len, const mvt_fault *fault, mvt_place *out);
 

@@ -117,13 +117,16 @@ private:
 /// The bytes are no tile. Tells the first broken rule.
 class refused : public error {
 public:
-    /// The bytes are those that were refused, or the first of them.
-    explicit refused(const mvt_fault &fault, input of = {})
+    /// The bytes are those that were refused, all or the first of them.
+    explicit refused(const mvt_fault &fault, input of = {}, bool are_all = true)
         : error(line_of(fault)), fault_(fault), sentence_(mvt_explain(of.data(), of.size(), &fault)) {
         mvt_place place{};
         mvt_locate(of.data(), of.size(), &fault, &place);
         if (place.has_layer_name) layer_name_ = std::make_shared<const std::string>(text_of(place.layer_name));
         if (place.has_feature_id) feature_id_ = place.feature_id;
+        if (of.size() == 0 || !are_all) return;
+        start_ = place.start;
+        end_ = place.end;
     }
 
     [[nodiscard]] std::optional<std::uint32_t> layer() const noexcept { return index(fault_.layer); }
@@ -141,6 +144,10 @@ public:
         return *layer_name_;
     }
     [[nodiscard]] std::optional<std::uint64_t> feature_id() const noexcept { return feature_id_; }
+    /// Where the bytes begin that the fault is about, and where they end, but of a decoder, which keeps no bytes. Where both
+    /// are one, the fault stands before that byte.
+    [[nodiscard]] std::optional<std::uint64_t> start() const noexcept { return start_; }
+    [[nodiscard]] std::optional<std::uint64_t> end() const noexcept { return end_; }
 
 private:
     static std::optional<std::uint32_t> index(std::int64_t of) noexcept {
@@ -163,14 +170,14 @@ private:
     mvt_fault fault_; // its name lasts for good
     const char *sentence_; // and so does this
     std::shared_ptr<const std::string> layer_name_;
-    std::optional<std::uint64_t> feature_id_;
+    std::optional<std::uint64_t> feature_id_, start_, end_;
 };
 
-/// Throws what a status other than MVT_OK means. The bytes are those that the call took.
-inline void require_ok(std::uint32_t status, const mvt_fault &fault, input of = {}) {
+/// Throws what a status other than MVT_OK means. The bytes are those that the call took, all or the first of them.
+inline void require_ok(std::uint32_t status, const mvt_fault &fault, input of = {}, bool are_all = true) {
     switch (status) {
     case MVT_OK: return;
-    case MVT_REFUSED: throw refused(fault, of);
+    case MVT_REFUSED: throw refused(fault, of, are_all);
     case MVT_NO_MEMORY: throw std::bad_alloc();
     case MVT_TOO_LARGE: throw too_large(mvt_status_text(status));
     case MVT_BAD_NAME: throw bad_name(mvt_status_text(status));
@@ -356,23 +363,23 @@ public:
         const std::size_t more = std::min(piece.size(), head_.size() - head_size_);
         std::copy_n(piece.data(), more, head_.begin() + static_cast<std::ptrdiff_t>(head_size_));
         head_size_ += more;
-        require_ok(mvt_decoder_feed(&held_, piece.data(), piece.size(), &fault), fault, head());
+        require_ok(mvt_decoder_feed(&held_, piece.data(), piece.size(), &fault), fault, head(), false);
     }
 
     /// The tile, after the last piece, which ends the decoder. Throws refused.
     [[nodiscard]] tile finish() {
         mvt_tile rows{};
         mvt_fault fault{};
-        require_ok(mvt_decoder_finish(&held_, &rows, &fault), fault, head());
+        require_ok(mvt_decoder_finish(&held_, &rows, &fault), fault, head(), false);
         return tile::adopt(rows);
     }
 
 private:
-    /// The first bytes, which tell whether the tile looks compressed.
+    /// The first bytes, which tell whether the tile looks like something else.
     input head() const noexcept { return {head_.data(), head_size_}; }
 
     mvt_decoder held_{};
-    std::array<std::uint8_t, 4> head_{};
+    std::array<std::uint8_t, 16> head_{};
     std::size_t head_size_ = 0;
 };
 

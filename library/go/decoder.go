@@ -21,7 +21,7 @@ import (
 // One goroutine at a time may use it.
 type Decoder struct {
 	decoder C.mvt_decoder
-	// The first bytes, which tell whether what was refused looks compressed.
+	// The first bytes, which tell whether what was refused looks like something else.
 	head []byte
 }
 
@@ -65,9 +65,18 @@ func (d *Decoder) Write(piece []byte) (int, error) {
 	var fault C.mvt_fault
 	status := C.mvt_decoder_feed(&d.decoder, start(piece), C.size_t(len(piece)), &fault)
 	if err := errorOf(status, d.head, &fault); err != nil {
-		return 0, err
+		return 0, ofFront(err)
 	}
 	return len(piece), nil
+}
+
+// ofFront is the same error where the first bytes of the tile alone are at hand: which bytes the fault is about isn't known
+// then.
+func ofFront(err error) error {
+	if told, ok := err.(*Refused); ok {
+		told.Start, told.End = nil, nil
+	}
+	return err
 }
 
 // ReadFrom takes all that a reader has, as Write does, up to its end or the first fault. It says how many bytes it read.
@@ -93,7 +102,8 @@ func (d *Decoder) Finish() (*Tile, error) {
 	defer runtime.KeepAlive(d)
 	var rows C.mvt_tile
 	var fault C.mvt_fault
-	return adopted(C.mvt_decoder_finish(&d.decoder, &rows, &fault), d.head, &rows, &fault)
+	tile, err := adopted(C.mvt_decoder_finish(&d.decoder, &rows, &fault), d.head, &rows, &fault)
+	return tile, ofFront(err)
 }
 
 // Close gives the decoder back.

@@ -34,6 +34,9 @@ type Refused struct {
 	// LayerName and FeatureID are what the bytes tell of these, where they tell it.
 	LayerName *string
 	FeatureID *uint64
+	// Start and End are where the bytes begin and end that the fault is about; where both are one, it stands before that
+	// byte. They are nil where the tile isn't at hand, as in a decoder.
+	Start, End *uint64
 	// Explanation is the fault in plain words.
 	Explanation string
 }
@@ -110,6 +113,10 @@ func refusedOf(tile []byte, fault *C.mvt_fault) *Refused {
 	if place.has_feature_id == 1 {
 		id := uint64(place.feature_id)
 		told.FeatureID = &id
+	}
+	if len(tile) != 0 {
+		begin, end := uint64(place.start), uint64(place.end)
+		told.Start, told.End = &begin, &end
 	}
 	return told
 }

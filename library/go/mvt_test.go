@@ -114,15 +114,36 @@ func good(t *testing.T, path string, tile []byte) {
 	read.Close()
 }
 
+// explained says whether what is said of a fault, and its bytes, are lines of what the program explains.
+func explained(t *testing.T, path string, tile []byte, fault *mvt.Refused) {
+	t.Helper()
+	out, _, _ := told(t, tile, "explain")
+	place := fmt.Sprintf("bytes %d to %d", *fault.Start, *fault.End-1)
+	if *fault.Start == *fault.End {
+		place = fmt.Sprintf("before byte %d", *fault.Start)
+	} else if *fault.Start+1 == *fault.End {
+		place = fmt.Sprintf("byte %d", *fault.Start)
+	}
+	isPlaced, isSaid := false, false
+	for _, line := range strings.Split(out, "\n") {
+		isPlaced = isPlaced || line == place || strings.HasPrefix(line, place+",")
+		isSaid = isSaid || line == fault.Explanation
+	}
+	if !isPlaced || !isSaid {
+		t.Fatalf("%s: %s: %s: %s", path, place, fault.Explanation, out)
+	}
+}
+
 func refused(t *testing.T, path string, tile []byte, err error) {
 	t.Helper()
 	_, why, status := told(t, tile, "check")
 	same(t, path, err.Error()+"\n", why)
 	same(t, path, status, 1)
 	var fault *mvt.Refused
-	if !errors.As(err, &fault) || fault.Explanation == "" {
+	if !errors.As(err, &fault) {
 		t.Fatalf("%s: %v", path, err)
 	}
+	explained(t, path, tile, fault)
 	for _, call := range []func([]byte) (string, error){mvt.Report, mvt.ToJSON, mvt.ToSVG} {
 		_, other := call(tile)
 		same(t, path, other, err)
@@ -254,7 +275,7 @@ func TestADecoderKnowsWhatLooksCompressed(t *testing.T) {
 	must(t, err, decoder).ReadFrom(strings.NewReader("\x1f\x8b\x08\x00"))
 	_, err = decoder.Finish()
 	var fault *mvt.Refused
-	if !errors.As(err, &fault) || !strings.Contains(fault.Explanation, "gzip") {
+	if !errors.As(err, &fault) || !strings.Contains(fault.Explanation, "gzip") || fault.Start != nil || fault.End != nil {
 		t.Fatal(err)
 	}
 }

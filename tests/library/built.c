@@ -294,20 +294,30 @@ static void explain(void) {
     mvt_locate(bytes, sizeof bytes, &fault, &place);
     require(place.has_layer_name && place.layer_name.len == 1 && place.layer_name.data[0] == 'a', "the layer's name");
     require(place.has_feature_id && place.feature_id == 300, "the feature's id");
+    require(fault.cause == 19 && place.start == 30 && place.end == 31, "the command that wants more");
     for (size_t len = 0; len < sizeof bytes; ++len) mvt_locate(bytes, len, &fault, &place);
     fault.layer = 2;
     mvt_locate(bytes, sizeof bytes, &fault, &place);
     require(!place.has_layer_name && !place.has_feature_id, "a layer that isn't there");
+    require(place.start == sizeof bytes && place.end == sizeof bytes, "which is said to be at the end");
     for (fault.cause = 1; fault.cause <= 26; ++fault.cause) {
         const char *said = mvt_explain(bytes, sizeof bytes, &fault);
         require(said != NULL && (fault.cause == 9 || strlen(said) > 15), "a sentence for each cause");
     }
     require(mvt_explain(NULL, 0, &fault) != NULL && mvt_explain(bytes, 0, &fault) != NULL, "a cause that isn't there");
+    mvt_locate(NULL, 0, &fault, &place);
+    require(place.start == 0 && place.end == 0 && !place.has_layer_name, "no bytes have no place");
+    fault.layer = INT64_MAX, fault.feature = INT64_MIN, fault.at = UINT64_MAX;
+    for (fault.cause = 0; fault.cause < 30; ++fault.cause) {
+        mvt_locate(bytes, sizeof bytes, &fault, &place);
+        require(place.start <= place.end && place.end <= sizeof bytes && !place.has_layer_name, "no layer has such an index");
+    }
     fault.cause = 4;
     require(strstr(mvt_explain((const uint8_t *)"\x1f\x8b", 2, &fault), "gzip") != NULL, "a head of gzip");
     const char *zlib[] = {"\x78\x01", "\x78\x5e", "\x78\x9c", "\x78\xda"};
     for (int i = 0; i < 4; ++i) require(strstr(mvt_explain((const uint8_t *)zlib[i], 2, &fault), "zlib") != NULL, "a head of zlib");
     require(strstr(mvt_explain((const uint8_t *)"\x78\x02", 2, &fault), "compressed") == NULL, "no head of zlib");
+    require(strstr(mvt_explain((const uint8_t *)"<html>", 6, &fault), "HTML") != NULL, "a head of HTML");
     for (uint32_t status = 0; status < 9; ++status) require(strlen(mvt_status_text(status)) > 3, "a text for a status");
     require(strcmp(mvt_version(), MVT_VERSION) == 0, "the version of the library");
 }

@@ -372,6 +372,7 @@ class BrokenTiles(unittest.TestCase):
             mvt.read(field(3, field(15, 2) + field(1, "\u00e4".encode()) + feature))
         fault = caught.exception
         self.assertEqual((fault.layer_name, fault.feature_id), ("\u00e4", 7))
+        self.assertEqual((fault.start, fault.end), (20, 21))
         wanted = "layer '\u00e4', feature with id 7: A line goes nowhere: this LineTo moves by (0, 0)."
         self.assertEqual(fault.explanation, wanted)
         if sys.version_info >= (3, 11):
@@ -379,19 +380,23 @@ class BrokenTiles(unittest.TestCase):
         twin = pickle.loads(pickle.dumps(fault))
         self.assertEqual((str(twin), twin.explanation, vars(twin)), (str(fault), wanted, vars(fault)))
 
-    def test_says_that_bytes_look_compressed(self):
+    def test_says_what_bytes_look_like(self):
         whole = tile("gdal.mvt")
         for packed in [gzip.compress(whole)] + [zlib.compress(whole, level) for level in (1, 5, 6, 9)]:
+            kind = "gzip" if packed[0] == 0x1F else "zlib"
+            wanted = f"This isn't a tile, but looks like {kind}. A tile is read uncompressed: unpack it first."
             for call in CALLS:
                 with self.assertRaises(mvt.Refused) as caught:
                     call(packed)
-                self.assertIn("look compressed", caught.exception.explanation)
+                self.assertTrue(caught.exception.explanation.endswith(wanted))
             with self.assertRaises(mvt.Refused) as caught:
                 decoder = mvt.Decoder()
                 for at in range(0, len(packed), 2):
                     decoder.feed(packed[at : at + 2])
                 decoder.finish()
-            self.assertIn("look compressed", caught.exception.explanation)
+            fault = caught.exception
+            self.assertTrue(fault.explanation.endswith(wanted))
+            self.assertEqual((fault.start, fault.end), (None, None))
 
 
 class Threads(unittest.TestCase):

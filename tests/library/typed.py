@@ -25,4 +25,10 @@ def use(content: bytes) -> List[int]:
     mvt.Builder().layer("a").feature("circles")  # type: ignore[arg-type]
     mvt.Builder().layer("a").feature("points").point(1.5, 2)  # type: ignore[arg-type]
     built: bytes = mvt.Builder().layer("a").feature("points", id=7).tag("k", 1.5).point(25, 17).finish()
+    try:
+        mvt.judge(content)
+    except mvt.Refused as fault:
+        where: Tuple[Optional[int], Optional[int]] = (fault.start, fault.end)
+        fault.start + 1  # type: ignore[operator]
+        places += [(0, end) for end in where if end is not None]
     return versions + all_versions + [first.extent, len(places), len(tags), len(kinds), len(both), len(names), len(built)]

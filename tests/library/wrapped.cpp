@@ -120,6 +120,7 @@ void explain() {
             require(packed == (of != broken), "a tile that isn't compressed looks so");
             require(why.layer_name() == (packed ? std::nullopt : std::optional<std::string_view>("a")), "another layer's name");
             require(why.feature_id() == (packed ? std::nullopt : std::optional<std::uint64_t>(7)), "another feature's id");
+            require(why.start() == (packed ? 0u : 19u) && why.end() == (packed ? 3u : 20u), "another place");
         }
     }
     mvt::decoder decoder;
@@ -129,6 +130,7 @@ void explain() {
         require(none.layers().size() > 9, "a compressed tile was taken");
     } catch (const mvt::refused &why) {
         require(!why.sentence().empty(), "a fault without words");
+        require(!why.start() && !why.end(), "a place in bytes that weren't kept");
     }
     require(std::string(mvt_version()) == MVT_VERSION, "the library is of another version");
 }

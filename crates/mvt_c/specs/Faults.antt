@@ -22,16 +22,17 @@ pub record IsFault (fault : TileFault) (reported : Fault) : Type 0 where
   pub cause : reported.cause ≡ cause_number fault.cause
   pub name : reported.name.bytes.now ≡ cause_name fault.cause
 
--- whether a feature is to blame, and what is wrong with rows, as C has it
-abbrev pub has_feature : Option ℕ → ℕ
-has_feature None = 0
-has_feature (Some n) = 1
+-- whether there is one, as C has it
+abbrev pub is_there : {A : Type 0} → Option A → ℕ
+is_there None = 0
+is_there (Some value) = 1
 
+-- what is wrong with rows, as C has it
 abbrev pub row_of_fault : RowsFault → RowsFaultRow
 row_of_fault fault = record {
   layer = fault.layer;
   feature = unwrap_or fault.feature 0;
-  has_feature = has_feature fault.feature;
+  has_feature = is_there fault.feature;
   cause = rows_cause_number fault.cause;
 }
 

@@ -3,3 +3,4 @@ pub mod Names
 pub mod Calls
 pub mod Texts
 pub mod Held
+pub mod Places

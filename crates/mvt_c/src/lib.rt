@@ -10,6 +10,7 @@ mod decoder;
 mod fault;
 mod lent;
 mod names;
+mod places;
 mod reading;
 mod refusal;
 mod texts;

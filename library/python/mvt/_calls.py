@@ -15,22 +15,29 @@ UNBOUNDED = 2**64 - 1
 Buffer = Union[bytes, bytearray, memoryview]
 
 
-def _refusal_of(fault: FaultRow, tile: bytes) -> Refused:
-    """The fault as an exception, with what the bytes that are at hand tell of its place."""
+def refusal_of(fault: FaultRow, tile: bytes, is_whole: bool = True) -> Refused:
+    """The fault as an exception, with what the bytes that are at hand, all of the tile or its first, tell of its place."""
     layer = None if fault.layer < 0 else fault.layer
     feature = None if fault.feature < 0 else fault.feature
     place = PlaceRow()
     library.mvt_locate(tile, len(tile), ctypes.byref(fault), ctypes.byref(place))
     layer_name = place.layer_name.copy().decode(errors="replace") if place.has_layer_name else None
     feature_id = place.feature_id if place.has_feature_id else None
-    sentence = library.mvt_explain(tile, len(tile), ctypes.byref(fault)).decode()
-    return Refused(layer, feature, fault.at, fault.cause, fault.name.copy().decode(), sentence, layer_name, feature_id)
+    where = (place.start, place.end) if tile and is_whole else (None, None)
+    name, sentence = fault.name.copy().decode(), sentence_of(fault, tile)
+    return Refused(layer, feature, fault.at, fault.cause, name, sentence, layer_name, feature_id, *where)
 
 
-def raise_for(status: int, fault: FaultRow, tile: bytes = b"") -> None:
-    """Raises what a status other than 0 means. The bytes are those that the call took."""
+def sentence_of(fault: FaultRow, tile: bytes = b"") -> str:
+    """A fault in plain words: which rule it breaks, or what the bytes look like that are no tile."""
+    told: bytes = library.mvt_explain(tile, len(tile), ctypes.byref(fault))
+    return told.decode()
+
+
+def raise_for(status: int, fault: FaultRow, tile: bytes = b"", is_whole: bool = True) -> None:
+    """Raises what a status other than 0 means. The bytes are those that the call took, or the first of them."""
     if status == REFUSED:
-        raise _refusal_of(fault, tile)
+        raise refusal_of(fault, tile, is_whole)
     if status == NO_MEMORY:
         raise MemoryError("out of memory")
     if status == TOO_LARGE:

@@ -10,8 +10,8 @@ from ._release import release_after
 from ._rows import Rows, rows_from, tile_of
 from ._tiles import Tile
 
-# So many bytes tell whether the tile looks compressed.
-_HEAD = 4
+# So many bytes tell whether the tile looks like something else.
+_HEAD = 16
 
 
 class Decoder:
@@ -29,7 +29,7 @@ class Decoder:
         with self._turn:
             self._head += piece[: _HEAD - len(self._head)]
             status = library.mvt_decoder_feed(ctypes.byref(self._held), piece, len(piece), ctypes.byref(fault))
-        raise_for(status, fault, self._head)
+        raise_for(status, fault, self._head, is_whole=False)
 
     def rows(self) -> Rows:
         """The tile as flat rows, after the last piece, which ends the decoder. Raises Refused."""
@@ -39,7 +39,7 @@ class Decoder:
             return status
 
         with self._turn:
-            return rows_from(call, self._head)
+            return rows_from(call, self._head, is_whole=False)
 
     def finish(self) -> Tile:
         """The tile as plain objects, after the last piece, which ends the decoder. Raises Refused."""

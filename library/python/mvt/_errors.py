@@ -13,7 +13,9 @@ class Refused(MvtError):
 
     `layer` and `feature` are indices, or None for a fault outside a layer or a feature. `at` is an offset in the
     tile, or an index in the tags or integers of the feature. `cause` is the cause's number and `name` its name.
-    `layer_name` and `feature_id` are None where there is none, or none can be told. `explanation` says it in words.
+    `layer_name` and `feature_id` are None where there is none, or none can be told. The fault is about the bytes of the
+    tile from `start` up to `end`, or stands before the byte `start` where both are one; both are None where the tile
+    isn't at hand, as in a decoder. `explanation` says it in words.
     """
 
     def __init__(
@@ -26,10 +28,13 @@ class Refused(MvtError):
         sentence: str = "",
         layer_name: Optional[str] = None,
         feature_id: Optional[int] = None,
+        start: Optional[int] = None,
+        end: Optional[int] = None,
     ) -> None:
-        super().__init__(layer, feature, at, cause, name, sentence, layer_name, feature_id)
+        super().__init__(layer, feature, at, cause, name, sentence, layer_name, feature_id, start, end)
         self.layer, self.feature, self.at, self.cause, self.name = layer, feature, at, cause, name
         self.layer_name, self.feature_id = layer_name, feature_id
+        self.start, self.end = start, end
         self.explanation = ": ".join(filter(None, [self._where(), sentence]))
         # A traceback shows the words below the line, and str() is the line alone.
         if sys.version_info >= (3, 11) and self.explanation:

@@ -197,11 +197,15 @@ class PlaceRow(Structure):
     has_layer_name: int
     has_feature_id: int
     feature_id: int
+    start: int
+    end: int
     _fields_ = [
         ("layer_name", Bytes),
         ("has_layer_name", c_uint32),
         ("has_feature_id", c_uint32),
         ("feature_id", c_uint64),
+        ("start", c_uint64),
+        ("end", c_uint64),
     ]
 
 

@@ -106,11 +106,11 @@ def rows_of(contents: Dict[str, bytes]) -> Rows:
     return Rows(lists)
 
 
-def rows_from(call: Callable[[Any, Any], int], tile: bytes) -> Rows:
-    """The rows that a call of the library hands out. The bytes are what is at hand of the tile."""
+def rows_from(call: Callable[[Any, Any], int], tile: bytes, is_whole: bool = True) -> Rows:
+    """The rows that a call of the library hands out. The bytes are the tile, or the first of it."""
     rows, fault = TileRows(), FaultRow()
     owner = _Owner(rows)
-    raise_for(call(ctypes.byref(rows), ctypes.byref(fault)), fault, tile)
+    raise_for(call(ctypes.byref(rows), ctypes.byref(fault)), fault, tile, is_whole)
     lists: Dict[str, Any] = {}
     for name, row in LISTS.items():
         count = getattr(rows, name + "_count")

@@ -20,7 +20,7 @@ use std::io;
 /// It is a [`Write`](io::Write) too, so that `io::copy` fills it.
 pub struct Decoder {
     held: sys::Decoder,
-    /// The first bytes, which tell whether what was refused looks compressed.
+    /// The first bytes, which tell whether what was refused looks like something else.
     head: Vec<u8>,
 }
 
@@ -75,7 +75,7 @@ impl Decoder {
         match unsafe { sys::mvt_decoder_feed(&mut self.held, start, len, &mut fault) } {
             sys::OK => Ok(()),
             // SAFETY: the fault is filled where the bytes are refused.
-            status => Err(unsafe { error_of(status, &self.head, &fault) }),
+            status => Err(unsafe { error_of(status, &self.head, &fault) }.of_front()),
         }
     }
 
@@ -90,6 +90,7 @@ impl Decoder {
         Tile::made(&self.head, |out, fault| unsafe {
             sys::mvt_decoder_finish(held, out, fault)
         })
+        .map_err(Error::of_front)
     }
 }
 

@@ -5,6 +5,7 @@ use crate::output::list;
 use crate::sys;
 use std::ffi::CStr;
 use std::fmt;
+use std::ops::Range;
 use std::os::raw::c_char;
 
 /// Why a call made nothing.
@@ -46,6 +47,9 @@ pub struct Refused {
     pub layer_name: Option<String>,
     /// The feature's id, where the bytes tell one.
     pub feature_id: Option<u64>,
+    /// The bytes that the fault is about, or an empty range where it stands before a byte; `None` where the tile isn't at
+    /// hand, as in a decoder.
+    pub bytes: Option<Range<u64>>,
     /// The fault in plain words.
     pub explanation: String,
 }
@@ -59,6 +63,16 @@ pub struct RowsFault {
     pub feature: Option<u64>,
     /// The cause's number, an `mvt_rows_cause` of `mvt.h`.
     pub cause: u32,
+}
+
+impl Error {
+    /// The same where the first bytes of the tile alone are at hand: which bytes the fault is about isn't known then.
+    pub(crate) fn of_front(mut self) -> Self {
+        if let Error::Refused(refused) = &mut self {
+            refused.bytes = None;
+        }
+        self
+    }
 }
 
 impl fmt::Display for Error {
@@ -129,6 +143,8 @@ unsafe fn refused_of(bytes: &[u8], fault: &sys::Fault) -> Refused {
         has_layer_name: 0,
         has_feature_id: 0,
         feature_id: 0,
+        start: 0,
+        end: 0,
     };
     // SAFETY: the pointers are those of this function's own values, and names and words last for good.
     let (name, layer_name, sentence) = unsafe {
@@ -146,6 +162,7 @@ unsafe fn refused_of(bytes: &[u8], fault: &sys::Fault) -> Refused {
         layer_name: (place.has_layer_name == 1)
             .then(|| String::from_utf8_lossy(layer_name).into_owned()),
         feature_id: (place.has_feature_id == 1).then_some(place.feature_id),
+        bytes: (!bytes.is_empty()).then_some(place.start..place.end),
         explanation: sentence,
     }
 }

@@ -175,6 +175,8 @@ pub struct Place {
     pub has_layer_name: u32,
     pub has_feature_id: u32,
     pub feature_id: u64,
+    pub start: u64,
+    pub end: u64,
 }
 
 extern "C" {

@@ -5,7 +5,7 @@ use mvt::{Builder, Error, Kind, Point, Value};
 use std::ffi::OsStr;
 use std::path::PathBuf;
 use std::process::{Command, Output, Stdio};
-use std::{env, fs, io, thread};
+use std::{env, fs, io, str, thread};
 
 fn tiles() -> Vec<(String, Vec<u8>)> {
     let folder = env::var("MVT_TILES").expect("MVT_TILES names the folder of the example tiles");
@@ -82,11 +82,27 @@ fn good(path: &str, bytes: &[u8], check: &Output) {
     }
 }
 
+/// What is said of a fault, and its bytes, are lines of what the program explains.
+fn explained(path: &str, fault: &mvt::Refused) {
+    let out = told(&["explain"], path).stdout;
+    let lines: Vec<_> = str::from_utf8(&out).unwrap().lines().collect();
+    let bytes = fault.bytes.as_ref().unwrap();
+    let place = match bytes.end - bytes.start {
+        0 => format!("before byte {}", bytes.start),
+        1 => format!("byte {}", bytes.start),
+        _ => format!("bytes {} to {}", bytes.start, bytes.end - 1),
+    };
+    let is_place = |line: &&str| line.split(", ").next() == Some(&place);
+    assert!(lines.iter().any(is_place), "{path}: {place}: {lines:?}");
+    let said = fault.explanation.as_str();
+    assert!(lines.contains(&said), "{path}: {said}: {lines:?}");
+}
+
 fn refused(path: &str, bytes: &[u8], check: &Output, error: &Error) {
     assert_eq!(check.status.code(), Some(1), "{path}");
     assert_eq!(format!("{error}\n").as_bytes(), check.stderr, "{path}");
     match error {
-        Error::Refused(fault) => assert!(!fault.explanation.is_empty(), "{path}"),
+        Error::Refused(fault) => explained(path, fault),
         other => panic!("{path}: {other}"),
     }
     for other in [
@@ -230,7 +246,10 @@ fn a_decoder_knows_what_looks_compressed() {
     let mut decoder = mvt::Decoder::new().unwrap();
     let told = decoder.feed(&[0x1f, 0x8b, 8, 0]);
     match told.and(decoder.finish().map(drop)) {
-        Err(Error::Refused(fault)) => assert!(fault.explanation.contains("gzip"), "{fault:?}"),
+        Err(Error::Refused(fault)) => {
+            assert!(fault.explanation.contains("gzip"), "{fault:?}");
+            assert_eq!(fault.bytes, None);
+        }
         other => panic!("{other:?}"),
     }
 }
