@@ -23,10 +23,14 @@ class Example(NamedTuple):
     link: Optional[str] = None
 
     def fault(self) -> Optional[mvt.Refused]:
-        row = self.row
-        if row.verdict != REFUSED or row.place is None or row.cause is None:
+        """The fault of a refused tile; None where its bytes are gone, or were mended since."""
+        if self.row.verdict != REFUSED or self.content is None:
             return None
-        return mvt.Refused(row.layer, row.feature, row.place, row.cause, row.cause_name or "")
+        try:
+            mvt.judge(self.content)
+        except mvt.Refused as fault:
+            return fault
+        return None
 
 
 def examples(results: Results, stores: Dict[str, Store], verdict: str, cause: Optional[int]) -> List[Example]:

@@ -13,8 +13,7 @@ from ..stores import Store
 from . import pictures
 from .examples import Example, examples
 from .maps import maps
-from .places import Place, locate, rows
-from .words import RULES, counted, here, marked
+from .words import counted, marked, meaning, rows
 
 # Of long tables the rest is counted.
 LONGEST = 40
@@ -154,10 +153,10 @@ def _causes(results: Results, stores: Dict[str, Store], found: Dict[str, Any]) -
     parts = []
     for verdict, cause, name, tiles in kinds:
         if tiles:
-            meaning = RULES.get(cause, "") if cause else f"Such a tile {MEANINGS[verdict]}."
+            means = meaning(cause) if cause else f"Such a tile {MEANINGS[verdict]}."
             anchor = cause or verdict.replace(" ", "-")
             parts.append(f'<h3 id="cause-{anchor}">{escape(name)}: {counted(tiles, "tile")}</h3>')
-            parts.append(f"<p>{escape(meaning)}</p>")
+            parts.append(f"<p>{escape(means)}</p>")
             parts += [_example(each, stores) for each in examples(results, stores, verdict, cause)]
     if parts:
         parts.insert(0, "<h2>The worst of each kind</h2>")
@@ -178,12 +177,11 @@ def _example(example: Example, stores: Dict[str, Store]) -> str:
         shown = _bytes(example.content, None)
         said.append(f"<p>{escape(row.notes)}; {counted(row.bytes or 0, 'byte')}.</p>")
         return f'<article>{"".join(said)}<div class="shown">{shown}</div></article>'
-    place = locate(example.content, fault)
     told = [f"<code>{escape(str(fault))}</code>", counted(row.bytes or 0, "byte"), escape(row.notes)]
-    if here(fault, place):
-        said.append(f"<p>{escape(here(fault, place))}</p>")
+    if not fault.explanation.endswith(meaning(fault.cause)):
+        said.append(f"<p>{escape(fault.explanation)}</p>")
     said.append(f'<p class="quiet">{"; ".join(filter(None, told))}</p>')
-    shown = "".join(_pictures(example.content, fault)) + _bytes(example.content, place)
+    shown = "".join(_pictures(example.content, fault)) + _bytes(example.content, (fault.start or 0, fault.end or 0))
     return f'<article>{"".join(said)}<div class="shown">{shown}</div></article>'
 
 
@@ -220,10 +218,10 @@ def _pictures(tile: bytes, fault: Any) -> Iterable[str]:
                   f"<figcaption>{escape(picture.told)}</figcaption></figure>"
 
 
-def _bytes(tile: bytes, place: Optional[Place]) -> str:
+def _bytes(tile: bytes, place: Optional[Tuple[int, int]]) -> str:
     """The bytes round a place, or those at the beginning."""
     lines = []
-    for run in rows(tile, place.start if place else 0, place.end if place else 0):
+    for run in rows(tile, *(place or (0, 0))):
         low, high = run.mark
         spelled = [f"{byte:02X}" for byte in run.content]
         if high > low:
@@ -232,6 +230,6 @@ def _bytes(tile: bytes, place: Optional[Place]) -> str:
         letters = "".join(chr(byte) if 31 < byte < 127 else "·" for byte in run.content)
         gap = "   " * (8 - len(run.content))
         lines.append(f"<b>{run.start:06X}</b>  {' '.join(spelled)}{gap}  <b>{escape(letters)}</b>")
-    caption = marked(place) if place else "The first bytes, as they are stored."
+    caption = marked(*place) if place else "The first bytes, as they are stored."
     told = f"{escape(caption)} Offsets are hexadecimal."
     return f"<figure><pre>{chr(10).join(lines)}</pre><figcaption>{told}</figcaption></figure>"

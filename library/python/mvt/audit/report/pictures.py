@@ -6,8 +6,7 @@ from typing import List, NamedTuple, Optional, Tuple
 
 import mvt
 
-from .. import wire
-from ..wire import Field
+from .fields import EXTENT, KIND, Field, geometry, holders, number_in
 from .shapes import Path, Point, paths, position
 
 # Larger pictures are left out of the page, and of larger tiles none is made.
@@ -37,7 +36,7 @@ def _varint(number: int) -> bytes:
 
 def _without(tile: bytes, fault: mvt.Refused) -> bytes:
     """The tile without the feature, the layer or the end that a fault names."""
-    layer, feature = wire.holders(tile, fault.layer, fault.feature)
+    layer, feature = holders(tile, fault.layer, fault.feature)
     if layer is None:
         return tile[: fault.at]
     if feature is None:
@@ -81,19 +80,17 @@ def _line(path: Path, colour: str, width: str) -> str:
     return f'<path fill="none" stroke="{colour}" stroke-width="{width}" d="M{points}{"z" if path.closed else ""}"/>'
 
 
-def _extent(tile: bytes, layer: Optional[Field]) -> int:
-    told = wire.last(tile, layer, wire.EXTENT, 0)
-    return told.value if told is not None and 0 < told.value < 1 << 32 else 4096
+def _extent(tile: bytes, layer: Field) -> int:
+    told = number_in(tile, layer, EXTENT) or 0
+    return told if 0 < told < 1 << 32 else 4096
 
 
 def _drawn(tile: bytes, fault: mvt.Refused) -> Tuple[List[Path], int, bool]:
     """The paths of the broken feature, the extent of its layer, and whether they are points."""
-    layer, feature = wire.holders(tile, fault.layer, fault.feature)
-    if feature is None:
+    layer, feature = holders(tile, fault.layer, fault.feature)
+    if layer is None or feature is None:
         return [], 0, False
-    kind = wire.last(tile, feature, wire.KIND, 0)
-    integers = (value for value, _, _ in wire.integers(tile, feature, wire.GEOMETRY))
-    return paths(integers), _extent(tile, layer), kind is not None and kind.value == 1
+    return paths(geometry(tile, feature)), _extent(tile, layer), number_in(tile, feature, KIND) == 1
 
 
 def _ring(point: Point, extent: int) -> str:
