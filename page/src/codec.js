@@ -1,6 +1,6 @@
 // The proved library, asked of the server that served the page. Its calls are those of library/mvt.h; how they are spelled
 // is told in library/python/mvt/page/calls.py.
-import { answerOf, framesOf, partsOf, rowsOf } from './spelling.js';
+import { answerOf, explainedOf, framesOf, partsOf, rowsOf } from './spelling.js';
 
 /** A tile has at most so many bytes. Of a longer input the library reads no more. */
 export const LIMIT = 67_108_864;
@@ -115,6 +115,12 @@ class OpenTile {
 
   judge() {
     return this.#call('judge');
+  }
+
+  /** Where and why the tile is refused: `place` beside the fault. */
+  async explain() {
+    const answer = await this.#codec.call('explain', this.#bytes);
+    return answer === null ? { status: NO_MEMORY } : explainedOf(answer);
   }
 
   /** The canonical bytes. */

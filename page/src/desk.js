@@ -6,7 +6,7 @@ import { FeatureTable } from './features.js';
 import { prepared, readFile } from './files.js';
 import { JsonIndex } from './json-index.js';
 import { allJudged, judged, readRows } from './judging.js';
-import { locate } from './locate.js';
+import { integersRound } from './locate.js';
 import { Finder } from './near.js';
 import { Painter } from './painter.js';
 import { SHAPES } from './rows.js';
@@ -40,8 +40,8 @@ export class Desk {
 
   /**
    * Reads and judges a file, bytes, or what stands at a path of the server; null is what was fetched. `facts` are the counts
-   * of an accepted tile, and `why` the reason where it can't be drawn; `place` is that of a fault, and `shape` what can be
-   * drawn of its feature.
+   * of an accepted tile, and `why` the reason where it can't be drawn; `place` is that of a fault with the integers round it,
+   * and `shape` what can be drawn of its feature.
    */
   async open({ source, name }) {
     const { size, read, verdict: unread } = source === null ? this.#fetched : await this.#take(source);
@@ -50,9 +50,15 @@ export class Desk {
     this.#tile = this.#codec.open(read.bytes);
     const { verdict, facts = null, why = null } = await this.#read(read, name);
     const { fault } = verdict;
-    const place = fault && locate(read.bytes, fault);
+    const place = fault && (await this.#placeOf(fault));
     const shape = fault && faultyShape(read.bytes, fault);
     return { size, length: read.bytes.length, note: read.note, verdict, facts, why, place, shape };
+  }
+
+  async #placeOf(fault) {
+    const { place } = await this.#tile.explain();
+    if (place === undefined) throw new RangeError('there is no memory for it');
+    return { ...place, integers: integersRound(this.#bytes, fault) };
   }
 
   /** The bytes of a source that are to be judged, `read`, and the size of all of it. */

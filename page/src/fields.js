@@ -1,5 +1,5 @@
-// The fields of a message of Protocol Buffers, as far as they can be split, so that the hex view can mark them. Nothing
-// is judged here: that is the library's.
+// The fields of a message of Protocol Buffers, as far as they can be split, to show what they hold. Nothing is judged here,
+// and no fault is looked for: that is the library's.
 
 /** The numbers of the fields that tiles know, by the message that has them. */
 export const FIELD = {
@@ -29,17 +29,15 @@ export function varint(bytes, at, end) {
 }
 
 /**
- * The field whose tag stands at an offset: its number and wire type, where its tag, its length and its payload stand,
- * and `whole`, which is false where it can't be split. What isn't known is null.
+ * The field whose tag stands at an offset: its number and wire type, where its tag and its payload stand, and `whole`, which
+ * is false where it can't be split. What isn't known is null.
  */
 function fieldAt(bytes, at, end) {
-  const broken = { at, number: null, wire: null, head: at, body: end, end, whole: false };
+  const broken = { at, number: null, wire: null, body: end, end, whole: false };
   const tag = varint(bytes, at, end);
-  if (tag === null || tag.value >= 2 ** 32 || tag.value < 8) {
-    return { ...broken, head: tag ? tag.end : Math.min(end, at + 10), body: tag ? tag.end : end };
-  }
-  const field = { ...broken, number: Math.floor(tag.value / 8), wire: tag.value % 8, head: tag.end, body: tag.end };
-  const upTo = (last) => ({ ...field, end: Math.min(last, end), whole: last <= end, wanted: last });
+  if (tag === null || tag.value >= 2 ** 32 || tag.value < 8) return broken;
+  const field = { ...broken, number: Math.floor(tag.value / 8), wire: tag.value % 8, body: tag.end };
+  const upTo = (last) => ({ ...field, end: Math.min(last, end), whole: last <= end });
   switch (field.wire) {
     case WIRE.varint: {
       const number = varint(bytes, tag.end, end);
@@ -53,7 +51,7 @@ function fieldAt(bytes, at, end) {
       const length = varint(bytes, tag.end, end);
       if (length === null) return field;
       const last = length.end + length.value;
-      return { ...upTo(last), head: length.end, body: length.end };
+      return { ...upTo(last), body: length.end };
     }
     default:
       return field;
@@ -83,7 +81,7 @@ export function nthField(bytes, message, number, index) {
 
 /** The whole input as a message. */
 export function wholeOf(bytes) {
-  return { at: 0, head: 0, body: 0, end: bytes.length };
+  return { at: 0, body: 0, end: bytes.length };
 }
 
 /** The integers of a feature's tags or geometry, by the field's number, each with its bytes; packed and unpacked ones are joined. */

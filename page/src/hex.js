@@ -1,4 +1,4 @@
-// The bytes as a table: a part of them at a time, with the bytes of a place marked.
+// The bytes as a table: a part of them at a time, with a place marked.
 import { grouped, hexOffset } from './text.js';
 import { element } from './dom.js';
 import { plain } from './foreign.js';
@@ -8,14 +8,14 @@ const ROWS = 128;
 
 export class HexView {
   #bytes;
-  #marks;
+  #mark;
   #perRow;
   #start = 0;
 
-  /** `marks` are `{start, end, kind}`; the later ones win. */
-  constructor(bytes, marks) {
+  /** `mark` is `{start, end}`, bytes or, where both are one, the place before a byte; null is none. */
+  constructor(bytes, mark) {
     this.#bytes = bytes;
-    this.#marks = marks;
+    this.#mark = mark;
     this.#perRow = matchMedia('(max-width: 40rem)').matches ? 8 : 16;
     this.table = element('tbody');
     this.frame = element('div', { class: 'hex', tabindex: '0', role: 'region', 'aria-label': 'The bytes' }, [
@@ -28,7 +28,7 @@ export class HexView {
     const label = element('label', {}, ['Go to byte (hexadecimal) ', goto]);
     const form = element('form', { onsubmit: (event) => this.#go(event, goto.value) }, [label, element('button', {}, ['Go'])]);
     this.root = element('div', {}, [this.frame, element('div', { class: 'buttons' }, [this.earlier, this.later, form, this.told])]);
-    this.show(this.#marks.at(-1)?.start ?? 0);
+    this.show(this.#mark?.start ?? 0);
   }
 
   /** Shows the bytes round an offset, and scrolls to it. */
@@ -83,26 +83,15 @@ export class HexView {
     ]);
   }
 
-  /** The bytes of a row as runs of one mark each. */
+  /** The bytes of a row, with those of the mark in an element. */
   #runs(start, end, spell) {
-    const runs = [];
-    for (let at = start; at < end;) {
-      const kind = this.#kindOf(at);
-      let spelled = '';
-      let next = at;
-      while (next < end && this.#kindOf(next) === kind) {
-        spelled += spell(this.#bytes[next]);
-        next += 1;
-      }
-      const gap = spelled.endsWith(' ') ? ' ' : '';
-      runs.push(kind ? element(kind === 'fault' ? 'mark' : 'span', { class: kind }, [gap ? spelled.slice(0, -1) : spelled]) : spelled);
-      if (kind && gap) runs.push(kind === 'fault' ? ' ' : gap);
-      at = next;
-    }
-    return runs;
-  }
-
-  #kindOf(at) {
-    return this.#marks.findLast((mark) => at >= mark.start && at < mark.end)?.kind ?? null;
+    const { start: from, end: to } = this.#mark ?? { start: -1, end: -1 };
+    const [low, high] = [from, to].map((at) => Math.min(Math.max(at, start), end));
+    const spelled = (first, last) => Array.from(this.#bytes.subarray(first, last), spell).join('');
+    const isBefore = from === to && from === low && (from < end || end === this.#bytes.length);
+    if (low === high && !isBefore) return [spelled(start, end)];
+    const marked = spelled(low, high);
+    const gap = marked.endsWith(' ') ? ' ' : '';
+    return [spelled(start, low), element('mark', {}, [gap ? marked.slice(0, -1) : marked]), gap, spelled(high, end)];
   }
 }

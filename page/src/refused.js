@@ -3,19 +3,17 @@ import { element } from './dom.js';
 import { foreign } from './foreign.js';
 import { HexView } from './hex.js';
 import { shapeOf } from './shape.js';
-import { textsOf } from './locate.js';
-import { offsetText, grouped } from './text.js';
-import { faultLine, sayPlace, sayTrail, sentence } from './words.js';
+import { grouped } from './text.js';
+import { faultLine, sayHolders, sayPlace } from './words.js';
 
 /** The parts of the page about a fault. */
 export function showFault(bytes, { fault, other }, { place, shape }, rules) {
   const rule = rules[fault.cause];
-  const marks = [place.field && { start: place.field.at, end: place.field.end, kind: 'field' }, { ...place.mark, kind: 'fault' }];
-  const words = other ? 'Read as a tile: ' : '';
+  const holders = sayHolders(fault, place);
   return [
     element('section', { class: 'fault', 'aria-label': 'The fault' }, [
-      element('p', { class: 'sentence' }, [words, ...sentence(fault, place)]),
-      showTrail(bytes, place),
+      element('p', { class: 'sentence' }, [other ? 'The library says: ' : '', place.sentence]),
+      holders.length === 0 ? '' : element('p', { class: 'trail' }, holders),
       element('p', {}, [sayPlace(place)]),
       element('div', { class: 'about-fault' }, [
         place.integers === null ? '' : showIntegers(place.integers),
@@ -27,20 +25,8 @@ export function showFault(bytes, { fault, other }, { place, shape }, rules) {
       ]),
     ]),
     element('h3', {}, ['Bytes']),
-    element('p', { class: 'quiet legend' }, [
-      element('mark', {}, ['The fault']), ' ', place.field ? element('span', { class: 'field' }, ['the field that holds it']) : '',
-    ]),
-    new HexView(bytes, marks.filter(Boolean)).root,
+    new HexView(bytes, place).root,
   ];
-}
-
-function showTrail(bytes, { trail }) {
-  if (trail.length === 0) return '';
-  const steps = trail.flatMap((step, depth) => {
-    const name = step.name === 'layer' ? textsOf(bytes, step.field, 1).at(-1) : undefined;
-    return [depth === 0 ? 'In ' : ' › ', sayTrail(step), ...(name ? [' “', foreign(name, 60), '”'] : []), `, from byte ${offsetText(step.field.at)}`];
-  });
-  return element('p', { class: 'trail' }, steps);
 }
 
 function showIntegers({ list, rows }) {

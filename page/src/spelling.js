@@ -8,6 +8,7 @@ const ROW_SIZES = { layers: 88, features: 64, keys: 16, values: 32, tags: 4, par
 const COUNTS_AT = 8;
 const HEAD = 8;
 const FAULT_HEAD = 40;
+const PLACE_HEAD = 40;
 
 const dataOf = (bytes) => new DataView(bytes.buffer, bytes.byteOffset, bytes.length);
 
@@ -25,6 +26,30 @@ function faultOf(block) {
   };
   const name = block.subarray(FAULT_HEAD, FAULT_HEAD + view.getUint32(36, true));
   return { layer: index(8), feature: index(16), at: Number(view.getBigUint64(24, true)), cause: view.getUint32(32, true), name: text(name) };
+}
+
+/**
+ * The answer to `explain`: where it is refused also the `place` of the fault, `{start, end, layerName, featureId, sentence}`:
+ * the bytes that it is about, the name and the id where there are such, and the rule in plain words.
+ */
+export function explainedOf(block) {
+  const answer = answerOf(block);
+  return answer.fault === undefined ? answer : { ...answer, place: locatedOf(block) };
+}
+
+function locatedOf(block) {
+  const rest = block.subarray(FAULT_HEAD + dataOf(block).getUint32(36, true));
+  const view = dataOf(rest);
+  const [hasName, hasId, nameLength, length] = [0, 4, 32, 36].map((at) => view.getUint32(at, true));
+  const [id, start, end] = [8, 16, 24].map((at) => view.getBigUint64(at, true));
+  const told = rest.subarray(PLACE_HEAD + nameLength);
+  return {
+    start: Number(start),
+    end: Number(end),
+    layerName: hasName === 1 ? text(rest.subarray(PLACE_HEAD, PLACE_HEAD + nameLength)) : null,
+    featureId: hasId === 1 ? id.toString() : null,
+    sentence: text(told.subarray(0, length)),
+  };
 }
 
 /** Where the lists of rows lie in the bytes of an answer: `{at, count}` by name, in the `memory` that is theirs. */

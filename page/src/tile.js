@@ -93,7 +93,7 @@ export class TileView {
   #bytes() {
     return folded('Bytes', () => {
       const box = element('div');
-      this.#client.ask('bytes').then((bytes) => box.append(new HexView(bytes, []).root));
+      this.#client.ask('bytes').then((bytes) => box.append(new HexView(bytes, null).root));
       return box;
     });
   }

@@ -15,7 +15,7 @@ import { Finder } from '../../page/src/near.js';
 import { Report } from '../../page/src/report.js';
 import { Rows } from '../../page/src/rows.js';
 import { spelledBytes, spelledOffset } from '../../page/src/spelled.js';
-import { answerOf, framesOf, partsOf, rowsOf } from '../../page/src/spelling.js';
+import { answerOf, explainedOf, framesOf, partsOf, rowsOf } from '../../page/src/spelling.js';
 import { sortedInSteps, withOthers } from '../../page/src/steps.js';
 import { WAYS, placeOf, verdictOfRow, wayFrom, wayOfKey } from '../../page/src/stored.js';
 import { grouped } from '../../page/src/text.js';
@@ -216,9 +216,16 @@ await is('an answer of bytes', { ...answerOf(Uint8Array.of(0, 0, 0, 0, 0, 0, 0, 
 await is('its bytes', [...answerOf(Uint8Array.of(0, 0, 0, 0, 0, 0, 0, 0, 7, 8)).bytes], [7, 8]);
 await is('an answer with a fault', answerOf(Uint8Array.from(FAULT)), { status: 1, fault: { layer: null, feature: 2, at: 264, cause: 22, name: 'ab' } });
 await is('an answer that stands within others', answerOf(Uint8Array.from([9, 9, 9, ...FAULT]).subarray(3)).fault.at, 264);
+const counted = (...numbers) => numbers.flatMap((number) => [number, 0, 0, 0, 0, 0, 0, 0]);
+const short = (...numbers) => numbers.flatMap((number) => [number, 0, 0, 0]);
+const PLACE = [...FAULT, ...short(1, 1), ...Array(8).fill(255), ...counted(9, 11), ...short(2, 3), 0xc3, 0xa4, 0x63, 0x64, 0x2e];
+await is('a place', explainedOf(Uint8Array.from([7, ...PLACE]).subarray(1)).place, { start: 9, end: 11, layerName: 'ä', featureId: '18446744073709551615', sentence: 'cd.' });
+await is('its fault', explainedOf(Uint8Array.from(PLACE)).fault, answerOf(Uint8Array.from(FAULT)).fault);
+const nameless = explainedOf(Uint8Array.from([...FAULT, ...short(0, 0), ...counted(0, 1, 2), ...short(0, 0)])).place;
+await is('a place without a name and an id', nameless, { start: 1, end: 2, layerName: null, featureId: null, sentence: '' });
+await is('no place where nothing is refused', explainedOf(Uint8Array.of(0, 0, 0, 0, 0, 0, 0, 0)).place ?? null, null);
 await is('frames', [...framesOf([Uint8Array.of(1, 2), Uint8Array.of(), Uint8Array.of(3)])], [3, 0, 0, 0, 2, 0, 0, 0, 0, 0, 0, 0, 1, 0, 0, 0, 1, 2, 3]);
 await is('parts of frames', partsOf(framesOf([Uint8Array.of(1, 2), Uint8Array.of(), Uint8Array.of(3)])).map((part) => [...part]), [[1, 2], [], [3]]);
-const counted = (...numbers) => numbers.flatMap((number) => [number, 0, 0, 0, 0, 0, 0, 0]);
 const lists = rowsOf(answerOf(Uint8Array.from([...counted(0), ...counted(1, 1, 1, 1, 3, 1, 1, 1, 5), ...Array(300)])).bytes);
 await is('where rows lie', Object.entries(lists).slice(0, 9).map(([name, { at, count }]) => `${name} ${at} ${count}`),
   ['layers 80 1', 'features 168 1', 'keys 232 1', 'values 248 1', 'tags 280 3', 'parts 296 1', 'points 320 1', 'integers 328 1', 'texts 336 5']);

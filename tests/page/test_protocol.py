@@ -72,6 +72,17 @@ class Calls(Served):
         self.assertEqual(self.serving.call("extract", frames(b"a", BROKEN)), wanted)
         self.assertEqual(self.serving.call("judge", b"\0"), struct.pack("<IIqqQII", 1, 0, -1, -1, 0, 3, 11) + b"FieldNumber")
 
+    def test_a_place(self):
+        told, fault = self.serving.call("explain", BROKEN), self.serving.call("judge", BROKEN)
+        sentence = "The first ring goes the wrong way round. An exterior ring has positive area, which is clockwise on the screen.".encode()
+        # The layer `a`; the feature has no id; the ClosePath is byte 21.
+        self.assertEqual(told, fault + struct.pack("<IIQQQII", 1, 0, 0, 21, 22, 1, len(sentence)) + b"a" + sentence)
+        outside = self.serving.call("explain", b"\0")
+        told = b"A field begins here whose number is 0 or far too large."
+        self.assertEqual(outside, self.serving.call("judge", b"\0") + struct.pack("<IIQQQII", 0, 0, 0, 0, 1, 0, len(told)) + told)
+        for tile in (GDAL, b""):
+            self.assertEqual(self.serving.call("explain", tile), struct.pack("<II", 0, 0))
+
     def test_rows(self):
         rows, told = mvt.rows(GDAL), self.serving.call("read", GDAL)
         names = ("layers", "features", "keys", "values", "tags", "parts", "points", "integers", "texts")

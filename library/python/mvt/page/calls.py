@@ -1,7 +1,9 @@
 """The library's calls as the page asks for them. An answer is the call's status and a 0, of 32 bits each, and then
 
 - for status 0 what the call hands out: bytes, or the lists of rows, as they lie in memory;
-- for status 1 the fault: layer, feature, place, cause, the length of the cause's name, and the name.
+- for status 1 the fault: layer, feature, place, cause, the length of the cause's name, and the name; of `explain` then
+  its place: whether there is a layer's name and a feature's id, of 32 bits each, the id, where the bytes begin and end that
+  the fault is about, the lengths of the layer's name and of the sentence, the name, and the sentence.
 
 Rows are nine counts of 64 bits in the order of `mvt_tile`, and the lists, each from the next multiple of 8.
 """
@@ -12,7 +14,7 @@ from contextlib import ExitStack, contextmanager
 from typing import Any, Callable, ContextManager, Dict, Iterator, List
 
 from .._calls import REFUSED
-from .._library import LISTS, Bytes, FaultRow, TileRows, library
+from .._library import LISTS, Bytes, FaultRow, PlaceRow, TileRows, library
 from . import frames
 from .frames import Part
 
@@ -27,6 +29,14 @@ Answer = ContextManager[List[Part]]
 def _judge(body: bytearray) -> Iterator[List[Part]]:
     fault, tile = FaultRow(), _lent(body, slice(0, len(body)))
     yield _spelled(library.mvt_judge(tile, len(tile), ctypes.byref(fault)), fault, [])
+
+
+@contextmanager
+def _explain(body: bytearray) -> Iterator[List[Part]]:
+    """Where and why a tile is refused; of an accepted one only that."""
+    fault, tile = FaultRow(), _lent(body, slice(0, len(body)))
+    status = library.mvt_judge(tile, len(tile), ctypes.byref(fault))
+    yield _spelled(status, fault, []) + (_explained(fault, tile) if status == REFUSED else [])
 
 
 @contextmanager
@@ -75,6 +85,7 @@ def _reports(body: bytearray) -> Iterator[List[Part]]:
 # What the page asks for, by its name; and which of them take frames.
 CALLS: Dict[str, Callable[[bytearray], Answer]] = {
     "judge": _judge,
+    "explain": _explain,
     "read": _read,
     "report": _of_whole(library.mvt_report),
     "rewrite": _of_whole(library.mvt_rewrite),
@@ -103,6 +114,15 @@ def _spelled(status: int, fault: FaultRow, handed_out: List[Part]) -> List[Part]
         name = fault.name.copy()
         return [head + struct.pack("<qqQII", fault.layer, fault.feature, fault.at, fault.cause, len(name)) + name]
     return [head, *handed_out] if status == 0 else [head]
+
+
+def _explained(fault: FaultRow, tile: Any) -> List[Part]:
+    place = PlaceRow()
+    library.mvt_locate(tile, len(tile), ctypes.byref(fault), ctypes.byref(place))
+    name = place.layer_name.copy() if place.has_layer_name else b""
+    sentence: bytes = library.mvt_explain(tile, len(tile), ctypes.byref(fault))
+    told = place.has_layer_name, place.has_feature_id, place.feature_id, place.start, place.end
+    return [struct.pack("<IIQQQII", *told, len(name), len(sentence)), name, sentence]
 
 
 def _lists(rows: TileRows) -> List[Part]:
