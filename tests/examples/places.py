@@ -4,7 +4,9 @@
 Has the program explain each tile (`PROGRAM explain`), inputs that are no tiles, and 1,000 tiles whose tags and geometry
 are spelled in pieces. Of those that it refuses, the fault is taken from its line, and this script looks for the place by
 itself, in a way that depends on the cause; it shares no code with the program. The rows of bytes are read back, and
-compared with the tile. tests/library/mutate.py makes changed tiles. The last line is 'places: N passed, M failed'."""
+compared with the tile, and the sentences with docs/REFUSALS.md. tests/library/mutate.py makes changed tiles. The last line
+is 'places: N passed, M failed'. tests/library/test_places.py and tests/page/test_places.py ask the library and the page for
+the same places."""
 
 import gzip
 import json
@@ -20,6 +22,7 @@ from rows import answer
 from sizes import field as spelled
 from sizes import varint as shortest
 
+TOP = Path(__file__).resolve().parents[2]
 LIMIT = 1 << 26
 LAYER, FEATURE, VALUE, NAME, ID, TAGS, GEOMETRY = 3, 2, 4, 1, 1, 2, 4
 LINE = re.compile(r"layer (\S+) feature (\S+) at (\d+): (\d+) \w+\n")
@@ -189,6 +192,30 @@ def looks_like(tile):
     return next((kind for kind, front in FRONTS if tile.startswith(front)), None)
 
 
+def documented():
+    """The sentence of each cause in docs/REFUSALS.md, by its number: that of the worked tiles which break the rule."""
+    found = {}
+    text = (TOP / "docs" / "REFUSALS.md").read_text()
+    for cause, block in re.findall(r"^    \$ .*broken/(\d+)-(?!WireType-gzip).*\n((?:    .*\n)+)", text, re.MULTILINE):
+        lines = [line.strip() for line in block.splitlines()]
+        sentence = next(line for line in lines if not re.match("layer |bytes? |before byte ", line))
+        assert found.setdefault(int(cause), sentence) == sentence
+    return found
+
+
+def sentence_fails(tile, cause, sentence, sentences):
+    """Whether a sentence isn't what an input looks like that is no tile, or else that of the cause."""
+    kind = looks_like(tile)
+    wanted = rf"This isn't a tile, but looks like (an? )?{kind}\b.*" if kind else re.escape(sentences[cause])
+    return not re.fullmatch(wanted, sentence)
+
+
+def fault_of(line):
+    """The fault that a line tells; None where it tells none."""
+    told = LINE.fullmatch(line)
+    return told and Fault(*(None if group == "-" else int(group) for group in told.groups()))
+
+
 def shown_bytes(tile, rows):
     """The rows of bytes read back: where the first byte stands, how many there are, and where the mark begins and ends,
     None where it doesn't end; or what is wrong with them."""
@@ -240,23 +267,18 @@ def place_line(place):
 
 
 def failure(tile, told, lines, sentences):
-    """Why what is said of a refused tile is wrong, if it is. Each cause has one sentence, which no other has."""
-    line = LINE.fullmatch(told)
-    if not line:
+    """Why what is said of a refused tile is wrong, if it is."""
+    fault = fault_of(told)
+    if not fault:
         return f"no line of a fault: {told!r}"
-    fault = Fault(*(None if group == "-" else int(group) for group in line.groups()))
     tile = tile[: LIMIT + 1]
     place = find(tile, fault)
     wanted = [place_line(place)] if fault.layer is None else [holders_line(fault, place), place_line(place)]
     if lines[: len(wanted)] != wanted:
         return f"{lines[: len(wanted)]} isn't {wanted}"
     sentence, *rows = lines[len(wanted) :]
-    kind = looks_like(tile)
-    if kind and not re.match(rf"This isn't a tile, but looks like (an? )?{kind}\b", sentence):
-        return f"it looks like {kind}: {sentence!r}"
-    key = kind or fault.cause
-    if sentences.setdefault(key, sentence) != sentence or list(sentences.values()).count(sentence) != 1:
-        return f"the sentence of {key}: {sentence!r}"
+    if sentence_fails(tile, fault.cause, sentence, sentences):
+        return f"the sentence of {fault.cause}: {sentence!r}"
     return rows_fail(tile, place, rows)
 
 
@@ -331,7 +353,7 @@ def tiles(names):
 
 
 def main():
-    passed, failed, sentences, causes = 0, 0, {}, Counter()
+    passed, failed, sentences, causes = 0, 0, documented(), Counter()
     for name, tile in tiles(sys.argv[2:]):
         (status, output, told), _ = answer(sys.argv[1], ["explain"], tile)
         if status == 0:
