@@ -11,3 +11,4 @@ mod TableLemmas
 mod ReadTableLemmas
 mod ReadLemmas
 mod VisitLemmas
+mod ReadIsTileLemmas

@@ -1,5 +1,5 @@
 -- What is wrong with rows is one thing: the first row, its first feature, its first cause.
-use Rattle.std.proofs.Common.{◌⊎◌, inl, inr, ◌≡◌, ◌≢◌, ℕ, ◌+◌, ◌<◌, ◌≤◌, Bool, true, false, ◌==◌, List, [], ◌∷◌, ◌++◌, length, take, drop, get_or, slice_get, Option, Some, None, refl, sym, ap, ap₂, ◌∙◌, subst, arith, take-append-drop, length-take}
+use Rattle.std.proofs.Common.{◌⊎◌, inl, inr, ◌≡◌, ℕ, ◌+◌, ◌<◌, Bool, true, false, ◌==◌, List, ◌∷◌, ◌++◌, length, take, drop, get_or, slice_get, Option, Some, None, refl, sym, ap, ap₂, ◌∙◌, subst, arith, take-append-drop, length-take}
 use Rattle.std.specs.List.{flat_map}
 use Rattle.std.proofs.lemmas.Bool.{cases_order, eqb-true, eqb-false, false≢true}
 use Rattle.std.proofs.lemmas.List.{get_or-take, take-append-le}
@@ -8,8 +8,6 @@ use Rattle.mvt_base.specs.Related.{AreRelated}
 use Rattle.mvt_base.proofs.ListLemmas.{around, related_once}
 use Rattle.mvt_attrs.specs.declared.value.Value.{Value}
 use Rattle.mvt_geometry.specs.declared.shape.Geometry.{Geometry as AGeometry}
-use Rattle.mvt_feature.specs.declared.feature.Feature.{Feature}
-use Rattle.mvt_message.specs.declared.item.Item.{Item}
 use Rattle.mvt_message.specs.Items.{names_in}
 use Rattle.mvt_tile_value.specs.Tiles.{HasDistinctNames}
 use Rattle.mvt_tile.specs.TileRules.{repeats}
@@ -18,7 +16,7 @@ use Rattle.mvt_rows.specs.declared.rows.FeatureRow.{FeatureRow}
 use Rattle.mvt_rows.specs.declared.rows.LayerRow.{LayerRow}
 use Rattle.mvt_rows.specs.declared.rows_cause.RowsCause.{RowsCause}
 use Rattle.mvt_rows.specs.declared.rows_cause.RowsFault.{RowsFault}
-use Rattle.mvt_rows.specs.RowsFaults.{IsFaultOf, IsFirstWrong, IsForeignWrong, IsInsideWrong, IsLayerWrongBy, IsRowWrong, IsUndrawn, IsValidFeatureOf, IsValidItemOf, IsWrongBy, feature_cause, name_cause, parts_cause}
+use Rattle.mvt_rows.specs.RowsFaults.{IsFaultOf, IsFirstWrong, IsForeignWrong, IsInsideWrong, IsLayerWrongBy, IsRowWrong, IsUndrawn, IsValidFeatureOf, IsValidItemOf, IsWrongBy, feature_cause, name_cause}
 use Rattle.mvt_rows.specs.Tables.{Table}
 use Rattle.mvt_rows.specs.TileRows.{geometry_of, part_of}
 use Rattle.mvt_rows.proofs.FaultLemmas.{feature_right, wrong_refuses}

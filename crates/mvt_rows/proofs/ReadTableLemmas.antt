@@ -1,5 +1,5 @@
 -- The rows that are read are those of the bytes, step by step.
-use Rattle.std.proofs.Common.{◌≡◌, ℕ, ◌+◌, ◌*◌, ◌^◌, ◌<◌, ◌≤◌, List, [], ◌∷◌, ◌++◌, length, take, refl, sym, ap, ap₂, ◌∙◌, subst, arith, length-append}
+use Rattle.std.proofs.Common.{◌≡◌, ℕ, ◌+◌, ◌*◌, ◌≤◌, List, [], ◌∷◌, ◌++◌, length, take, refl, sym, ap, ap₂, ◌∙◌, subst, arith, length-append}
 use Rattle.std.specs.List.{flat_map, fold}
 use Rattle.std.proofs.lemmas.List.{take-append-le, take_all}
 use Rattle.mvt_attrs.specs.declared.value.Attribute.{Attribute}
@@ -7,7 +7,6 @@ use Rattle.mvt_attrs.specs.declared.value.Value.{Value}
 use Rattle.mvt_attrs.specs.declared.value.Value.TheVariants.{Text}
 use Rattle.mvt_attrs.specs.Tags.{Resolved}
 use Rattle.mvt_wire.specs.Field.{Content, varint, fixed64, bytes, fixed32, Entry}
-use Rattle.mvt_wire.specs.Packed.{packed}
 use Rattle.mvt_wire.specs.Split.{split}
 use Rattle.mvt_wire.proofs.WireLaws.{packed_function_only, split_function_only}
 use Rattle.mvt_geometry.specs.declared.shape.Geometry.{Geometry}
@@ -46,14 +45,20 @@ joined_is [] numbers are = are
 joined_is (x ∷ xs) numbers (front, back, is, first, rest) =
     is ∙ ap₂ (λ a b. a ++ b) (numbers_are x.content front first) (joined_is xs back rest)
 
+-- the tags of a payload name its feature's attributes
+pub joined_tags : (payload : List ℕ) (keys : List (List ℕ)) (values : List Value) (f : Feature) → IsFeatureOf payload keys values f
+    → Resolved keys values (joined TAGS (split payload).fields) f.attributes
+joined_tags payload keys values f (fields, whole, is) =
+    let of_fields = joined_is (only TAGS fields) is.tags is.tags_are in
+    let all = (split_function_only payload [] fields whole).0 in
+    subst (λ tags. Resolved keys values tags f.attributes) (of_fields ∙ ap (joined TAGS) all) is.attributes
+
 -- tags that name a feature's attributes are as many as those of its payload
 pub tags_counted : (payload : List ℕ) (keys : List (List ℕ)) (values : List Value) (f : Feature) (tags : List ℕ)
     → Resolved keys values tags f.attributes → IsFeatureOf payload keys values f
     → length tags ≡ length (joined TAGS (split payload).fields)
-tags_counted payload keys values f tags named (fields, whole, is) =
-    let of_fields = joined_is (only TAGS fields) is.tags is.tags_are in
-    let all = (split_function_only payload [] fields whole).0 in
-    named.named.twice ∙ sym is.attributes.named.twice ∙ ap length (of_fields ∙ ap (joined TAGS) all)
+tags_counted payload keys values f tags named is =
+    named.named.twice ∙ sym (joined_tags payload keys values f is).named.twice
 
 -- other tags
 

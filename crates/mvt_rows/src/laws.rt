@@ -1,9 +1,12 @@
 //! Laws about the definitions alone: functions without effect, whose contract is the law.
 ghost use Rattle.std.specs.Prelude.{◌≡◌, ℕ, List};
+ghost use Rattle.mvt_base.specs.declared.TheConstants.{LIMIT};
+ghost use Rattle.mvt_feature.specs.Ranges.{AreBytes};
 ghost use Rattle.mvt_tile_value.specs.declared.tile.Tile.{Tile};
+ghost use Rattle.mvt_tile_value.specs.Tiles.{IsTile};
 ghost use Rattle.mvt_rows.specs.declared.rows_cause.RowsFault.{RowsFault};
 ghost use Rattle.mvt_rows.specs.Reading.{IsRead, IsRewritten, IsTooLarge};
-ghost use Rattle.mvt_rows.specs.ReadTables.{AreSameRows};
+ghost use Rattle.mvt_rows.specs.ReadTables.{AreSameRows, read_table};
 ghost use Rattle.mvt_rows.specs.RowsFaults.{IsFaultOf};
 ghost use Rattle.mvt_rows.specs.Tables.{Table, table_size};
 ghost use Rattle.mvt_rows.specs.TileRows.{IsTileOf};
@@ -13,6 +16,12 @@ ghost use Rattle.mvt_rows.specs.Written.{IsNoTile, IsTooLargeOfRows, IsWritten};
 pub fn rows_are_one_tile()
     ensures { (table : Table) (tile other : Tile) → IsTileOf table tile → IsTileOf table other
         → tile ≡ other }
+{}
+
+/// The rows that a tile's bytes are read as are that tile.
+pub fn read_table_is_tile()
+    ensures { (input : List ℕ) (tile : Tile) → AreBytes input → IsTile LIMIT input tile
+        → IsTileOf (read_table input tile) tile }
 {}
 
 /// Bytes are read as one table, but for which of equal entries a tag names.

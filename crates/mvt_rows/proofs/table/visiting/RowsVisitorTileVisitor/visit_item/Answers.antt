@@ -1,5 +1,4 @@
-use Rattle.std.proofs.Common.{◌≡◌, ℕ, List, [], ◌∷◌, ◌++◌, refl, sym, ap, ◌∙◌, subst}
-use Rattle.std.specs.List.{fold}
+use Rattle.std.proofs.Common.{◌≡◌, List, [], ◌∷◌, ◌++◌, refl, sym, ap, ◌∙◌, subst}
 use Rattle.mvt_wire.specs.Split.{split}
 use Rattle.mvt_message.specs.declared.item.Item.{Item}
 use Rattle.mvt_message.specs.declared.item.Item.TheVariants.{Layer as ALayer, Foreign as AForeign}
@@ -12,7 +11,7 @@ use Rattle.mvt_rows.specs.declared.places.Places.{Places}
 use Rattle.mvt_rows.specs.declared.table.visiting.RowsVisitor.{RowsVisitor}
 use Rattle.mvt_rows.specs.ReadTables.{AreSameRows, with_item}
 use Rattle.mvt_rows.specs.Tables.{Table, with_foreign, with_layer_row, without_values}
-use Rattle.mvt_rows.specs.Visiting.{AreItemRows, AreLayerRows, HasRead, HasReadFeatures}
+use Rattle.mvt_rows.specs.Visiting.{AreItemRows, AreLayerRows, HasReadFeatures}
 use Rattle.mvt_rows.proofs.ReadTableLemmas.{item_read, layer_read, same_of, values_kept}
 use Rattle.mvt_rows.proofs.VisitLemmas.{layer_opened, layer_ends, foreign_ends, was_layer, was_foreign}
 use Rattle.mvt_rows.proofs.table.visiting.RowsVisitorTileVisitor.visit_item.Goals as goal
