@@ -23,8 +23,7 @@ returns-in_err-finish-clause-refused c =
 
 pub returns-clause-done : goal.returns-clause-done
 returns-clause-done c = λ s stands.
-    let (tile, is, valid, has) = c.in_ok-finish.ensures.tile tt s stands in
-    (
+    let (tile, is, valid, has) = c.in_ok-finish.ensures.tile tt s stands in (
       tile,
       is,
       valid,
