@@ -10,11 +10,12 @@ import warnings
 from typing import Any, Callable, Dict, Iterator, List, NamedTuple, Optional, Sequence, Tuple
 
 from .judging import judged_part
-from .results import Added, Done, Results
+from .results import Added, Block, Done, Results
 from .stores import Store
 
-# How many parts wait at the scheduler for each worker, so that none of them is idle and no memory grows.
-AHEAD = 4
+# How many parts wait at the scheduler for each worker, so that none of them is idle, but with no more tiles than so many,
+# since their rows may all be in memory where the client is the slowest.
+AHEAD, MOST_TILES = 4, 8_000_000
 
 # What Dask is told, unless the environment says something else. Workers that are begun here read it too.
 SETTINGS = {
@@ -28,6 +29,8 @@ SETTINGS = {
     "DISTRIBUTED__ADMIN__TICK__INTERVAL": "500ms",
     "DISTRIBUTED__ADMIN__SYSTEM_MONITOR__INTERVAL": "5s",
     "DISTRIBUTED__WORKER__MEMORY__MONITOR_INTERVAL": "1s",
+    "DISTRIBUTED__SCHEDULER__WORK_STEALING_INTERVAL": "1s",
+    "DISTRIBUTED__CLIENT__SCHEDULER_INFO_INTERVAL": "10s",
 }
 
 # What is told of each finished part.
@@ -52,7 +55,7 @@ def workers(count: int, scheduler: Optional[str]) -> Iterator[Any]:
     for name, value in SETTINGS.items():
         os.environ.setdefault(f"DASK_{name}", value)
     dask: Any = importlib.import_module("distributed")
-    for name in ("distributed", "tornado", "asyncio"):
+    for name in ("distributed", "distributed.client", "tornado", "asyncio"):
         logging.getLogger(name).setLevel(logging.CRITICAL)
     if scheduler is not None:
         try:
@@ -62,7 +65,8 @@ def workers(count: int, scheduler: Optional[str]) -> Iterator[Any]:
         with client:
             yield client
         return
-    with _cluster(dask, count) as cluster, dask.Client(cluster) as client:
+    # What the workers found needs no way by the scheduler, which is in this process.
+    with _cluster(dask, count) as cluster, dask.Client(cluster, direct_to_workers=True) as client:
         yield client
 
 
@@ -88,26 +92,30 @@ def run(client: Any, results: Results, stores: Sequence[Store], done: Dict[str, 
     handed: Dict[str, Tuple[str, int]] = {}
     lost: List[Lost] = []
 
-    def take(finished: Tuple[Any, Any]) -> None:
-        future, block = finished
-        path, part = handed.pop(future.key)
-        if future.cancelled():
-            raise EngineError("the scheduler went away")
-        why = future.exception()
-        if why is not None:
-            lost.append(Lost(path, part, f"{type(why).__name__}: {why}".splitlines()[0]))
-            return
-        told(results.add(path, part, block))
+    def take(finished: Sequence[Tuple[Any, Any]]) -> None:
+        blocks = []
+        for future, content in finished:
+            path, part = handed.pop(future.key)
+            if future.cancelled():
+                raise EngineError("the scheduler went away")
+            why = future.exception()
+            if why is None:
+                blocks.append(Block(path, part, content))
+            else:
+                lost.append(Lost(path, part, f"{type(why).__name__}: {why}".splitlines()[0]))
+        for added in results.add(blocks):
+            told(added)
 
-    workers = max(1, len(client.nthreads()))
-    most = {store.path: store.spread(workers) or AHEAD * workers for store in stores}
-    for store, part, tiles in parts(stores, done, results.part_size()):
+    workers, size = max(1, len(client.nthreads())), results.part_size()
+    ahead = min(AHEAD * workers, max(1, MOST_TILES // size))
+    most = {store.path: store.spread(workers) or ahead for store in stores}
+    for store, part, tiles in parts(stores, done, size):
         while waiting.count() >= most[store.path]:
-            take(next(waiting))
+            take(waiting.next_batch())
         future = client.submit(judged_part, store, tiles, pure=False)
         handed[future.key] = store.path, part
         waiting.add(future)
-    for finished in waiting:
+    for finished in waiting.batches():
         take(finished)
     return lost
 

@@ -17,7 +17,7 @@ from .stores import State, Store, StoreError, opened
 
 USAGE, UNREAD, INTERRUPTED = 2, 3, 130
 # Parts are so many that the work is shared out evenly, but each is worth its way to a worker and back.
-PARTS, SMALLEST, LARGEST = 50, 100, 20_000
+PARTS, SMALLEST, LARGEST = 50, 100, 50_000
 
 
 def _parser() -> argparse.ArgumentParser:
@@ -36,7 +36,7 @@ def _parser() -> argparse.ArgumentParser:
     where = words.add_mutually_exclusive_group()
     where.add_argument("--workers", type=serverwords.positive, default=4, metavar="N", help="processes on this machine (4)")
     where.add_argument("--scheduler", metavar="ADDRESS", help="a scheduler of Dask, such as tcp://alpha:8786")
-    words.add_argument("--part", type=serverwords.positive, metavar="N", help="tiles in a part (a fiftieth; 100 to 20,000)")
+    words.add_argument("--part", type=serverwords.positive, metavar="N", help="tiles in a part (a fiftieth; 100 to 50,000)")
     words.add_argument("--anew", action="store_true", help="forget the results in the folder, and begin again")
     words.add_argument("--json", action="store_true", help="sum up as JSON")
     serverwords.add_to(words)

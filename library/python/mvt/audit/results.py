@@ -1,4 +1,4 @@
-"""The results in `audit.sqlite`: written by one process, a part of a store in each transaction."""
+"""The results in `audit.sqlite`: written by one process, in transactions of whole parts of stores."""
 
 import fcntl
 import os
@@ -31,7 +31,10 @@ VERSION = 2
 # It is made when all tiles are in: while there is none, the rows of a block are copied as they stand.
 _INDEX = "create index if not exists tiles_not_accepted on tiles (verdict, cause, z) where verdict <> 'accepted'"
 
-_ADD_CELLS = """insert into main.cells select * from block.cells where true
+# So many blocks are taken in at a time: SQLite has room for ten databases.
+_BLOCKS = 8
+
+_ADD_CELLS = """insert into main.cells select * from {block}.cells where true
  on conflict do update set tiles = tiles + excluded.tiles, broken = broken + excluded.broken"""
 
 # By what tiles are counted, beside the store.
@@ -41,6 +44,14 @@ NOTED = ("z", "note")
 
 class ResultsError(Exception):
     """Why the results can't be used, in a line."""
+
+
+class Block(NamedTuple):
+    """What a worker found in a part of a store: the bytes of an SQLite file."""
+
+    path: str
+    part: int
+    content: bytes
 
 
 class Added(NamedTuple):
@@ -68,7 +79,8 @@ class Results:
             for end in ("", "-journal"):
                 Path(f"{self.file}{end}").unlink(missing_ok=True)
         self.database = self._opened()
-        self.database.execute("attach ':memory:' as block")
+        for number in range(_BLOCKS):
+            self.database.execute(f"attach ':memory:' as block{number}")
 
     def _opened(self) -> sqlite3.Connection:
         database = sqlite3.connect(self.file, isolation_level=None)
@@ -114,18 +126,18 @@ class Results:
         rows = self.database.execute("select part, tiles from parts where store = ?", (path,)).fetchall()
         return Done({part for part, _ in rows}, sum(tiles for _, tiles in rows))
 
-    def add(self, path: str, part: int, block: bytes) -> Added:
-        """Takes in a part's rows, all or none of them."""
-        self._hold(block)
-        [tiles] = self.database.execute("select tiles from block.asked").fetchone()
-        [broken] = self.database.execute(f"select total(tiles) from block.counts where {BROKEN}").fetchone()
+    def add(self, blocks: Sequence[Block]) -> List[Added]:
+        """Takes in the rows of parts, all or none of each."""
+        some = [self._add(blocks[begin : begin + _BLOCKS]) for begin in range(0, len(blocks), _BLOCKS)]
+        return [added for each in some for added in each]
+
+    def _add(self, blocks: Sequence[Block]) -> List[Added]:
+        """Takes in some parts by one transaction, since each waits for the disk."""
+        named = [(f"block{number}", block) for number, block in enumerate(blocks)]
+        for name, block in named:
+            self._hold(name, block.content)
         with _transaction(self.database) as database:
-            database.execute("insert into main.tiles select * from block.tiles")
-            _count(database, "counts", COUNTED, path)
-            _count(database, "note_counts", NOTED, path)
-            database.execute(_ADD_CELLS)
-            database.execute("insert into parts values (?, ?, ?)", (path, part, tiles))
-        return Added(tiles, int(broken))
+            return [_copy(database, name, block) for name, block in named]
 
     def drop_index(self) -> None:
         """Before blocks are added."""
@@ -135,16 +147,16 @@ class Results:
         """When all are."""
         self.database.execute(_INDEX)
 
-    def _hold(self, block: bytes) -> None:
-        """Has the database `block` be these bytes of a file."""
+    def _hold(self, name: str, content: bytes) -> None:
+        """Has a database be these bytes of a file."""
         if sys.version_info >= (3, 11):
-            self.database.deserialize(block, name="block")
+            self.database.deserialize(content, name=name)
             return
-        self.database.execute("detach block")
+        self.database.execute(f"detach {name}")
         with tempfile.NamedTemporaryFile() as file:
-            file.write(block)
+            file.write(content)
             file.flush()
-            self.database.execute("attach ? as block", (file.name,))
+            self.database.execute(f"attach ? as {name}", (file.name,))
 
     def counted(self, columns: str, where: str = "true") -> List[Any]:
         """The counts by some columns: these and the number of tiles, the largest number first."""
@@ -166,10 +178,22 @@ class _transaction:
         self.database.execute("rollback" if kind else "commit")
 
 
-def _count(database: sqlite3.Connection, table: str, columns: Iterable[str], path: str) -> None:
+def _copy(database: sqlite3.Connection, name: str, block: Block) -> Added:
+    """Copies the rows of a block, and adds what it counted."""
+    [tiles] = database.execute(f"select tiles from {name}.asked").fetchone()
+    [broken] = database.execute(f"select total(tiles) from {name}.counts where {BROKEN}").fetchone()
+    database.execute(f"insert into main.tiles select * from {name}.tiles")
+    _count(database, name, "counts", COUNTED, block.path)
+    _count(database, name, "note_counts", NOTED, block.path)
+    database.execute(_ADD_CELLS.format(block=name))
+    database.execute("insert into parts values (?, ?, ?)", (block.path, block.part, tiles))
+    return Added(tiles, int(broken))
+
+
+def _count(database: sqlite3.Connection, name: str, table: str, columns: Iterable[str], path: str) -> None:
     """Adds a block's counts to a table of counts."""
     where = " and ".join(f"{column} is ?" for column in ["store", *columns])
-    found = database.execute(f"select {', '.join(columns)}, tiles from block.{table}").fetchall()
+    found = database.execute(f"select {', '.join(columns)}, tiles from {name}.{table}").fetchall()
     for *kind, tiles in found:
         changed = database.execute(f"update main.{table} set tiles = tiles + ? where {where}", (tiles, path, *kind))
         if not changed.rowcount:
