@@ -3,15 +3,20 @@
 import gzip
 import itertools
 import pickle
+import random
 import resource
 import sqlite3
 import unittest
 import zlib
+from collections import Counter
+from contextlib import closing
 
 import mvt
 from common import Case, at_places, example_tiles, make_mbtiles, make_tree, packings
 from mvt.audit import stores
-from mvt.audit.judging import judged
+from mvt.audit.files import ReadAhead
+from mvt.audit.judging import judged, judged_part
+from mvt.audit.results import Block, Results
 from mvt.audit.stores import Address, StoreError
 from mvt.audit.unpacking import LIMIT, NotUnpacked, unpacked
 
@@ -146,6 +151,45 @@ class Stores(Case):
         unread = [judged(address, tile) for address, tile in found if not isinstance(tile, bytes)]
         self.assertEqual({row.verdict for row in unread}, {"unread"})
         self.assertRegex(unread[0].name, r"row \d+")
+
+
+class Blocks(Case):
+    def test_many_parts_have_each_row_and_its_counts(self):
+        contents = [b"", b"no tile", b"\x1f\x8bcut", gzip.compress(bytes([0x78, 0x01]))]
+        tiles = at_places([contents[number % 7 % 4] for number in range(3000)], 12)
+        tiles.update({(8, 3, 3): b"", (9, 511, 0): b"no tile"})
+        store = stores.opened(str(make_mbtiles(self.room / "it's.mbtiles", tiles)))
+        with closing(Results(self.into)) as results:
+            results.begin([store], [store.state()], 250)
+            blocks = [Block(store.path, part, judged_part(store, tiles)) for part, tiles in enumerate(store.ranges(250))]
+            self.assertGreater(len(blocks), 10)
+            added = results.add(blocks)
+            found = results.database.execute("select store, z, x, y, verdict, cause, cause_name, layer_name, notes from tiles").fetchall()
+            counts = results.database.execute("select * from counts").fetchall()
+            notes = results.database.execute("select note, tiles from note_counts where z = 12").fetchall()
+            cells = results.database.execute("select * from cells").fetchall()
+        self.assertEqual({row[1:4] for row in found}, set(tiles))
+        self.assertEqual(Counter((*row[:2], *row[4:8]) for row in found), {row[:-1]: row[-1] for row in counts})
+        self.assertEqual(sum(tiles for tiles, _ in added), 3002)
+        broken = Counter(row[1:4] for row in found if row[4] in ("refused", "not unpacked"))
+        self.assertEqual(sum(tiles for _, tiles in added), broken.total())
+        self.assertEqual(notes, [("NoLayers", sum(row[1] == 12 and row[8] == "NoLayers" for row in found))])
+        squares = {}
+        for z, x, y in tiles:
+            if z > 8:
+                square = squares.setdefault((z, x >> z - 8, y >> z - 8), [0, 0])
+                square[0] += 1
+                square[1] += broken[z, x, y]
+        self.assertEqual({row[:3]: list(row[3:]) for row in cells}, squares)
+
+    def test_reading_ahead_reads_what_stands_there(self):
+        content = random.Random(7).randbytes(3_000_000)
+        (self.room / "file").write_bytes(content)
+        pieces = [(at, 1000) for at in range(0, 2_999_000, 1000)] + [(5, 7), (0, 3_000_000), (2_999_990, 20), (4_000_000, 5), (12, 0)]
+        with open(self.room / "file", "rb") as file:
+            read = ReadAhead(file.fileno())
+            for at, length in [*pieces, *pieces[::-1], *pieces[::7]]:
+                self.assertEqual(read(at, length), content[at : at + length], (at, length))
 
 
 class Unpacking(unittest.TestCase):

@@ -22,6 +22,7 @@ _MODULES = {BROTLI: ("brotli", "python3-brotli"), ZSTD: ("zstandard", "python3-z
 # Few enough that what they unpack to is some megabytes at most.
 _BROTLI_STEP = 4
 _ENDLESS = 1 << 64
+_BEHIND_ALL = first_of(DEEPEST + 1)
 _EARLIER_BYTES = bytes(range(128, 256))
 
 
@@ -104,22 +105,28 @@ class Directory:
     def has_leaves(self) -> bool:
         return 0 in _numbers(self._runs)
 
-    def entries(self) -> Iterator[Entry]:
-        """The entries in order. Raises ArchiveError behind the last that is as it should be."""
-        last = Entry(-1, 1, 0, 0)
+    def entries(self, low: int = 0, high: int = _BEHIND_ALL) -> Iterator[Entry]:
+        """The entries in order, whose tile ids lie from one on up to another. Raises ArchiveError behind the last that is as
+        it should be."""
+        tile_id = behind = at = 0
         columns = zip(_numbers(self._ids), _numbers(self._runs), _numbers(self._lengths), _numbers(self._offsets))
         for index, (step, run, length, offset) in enumerate(columns):
-            tile_id = step + max(last.tile_id, 0)
-            if tile_id < last.tile_id + max(last.run, 1):
+            tile_id += step
+            if tile_id < behind:
                 raise ArchiveError(f"entry {index} (tile id {tile_id}) is out of order or overlaps the one before it")
-            if tile_id + run > first_of(DEEPEST + 1):
+            behind = tile_id + (run or 1)
+            if tile_id + run > _BEHIND_ALL:
                 raise ArchiveError(f"entry {index} has tile ids beyond zoom {DEEPEST}")
             if length == 0:
                 raise ArchiveError(f"entry {index} (tile id {tile_id}) has no bytes")
-            if offset == 0 and index == 0:
+            if offset:
+                at = offset - 1
+            elif index == 0:
                 raise ArchiveError("its first entry stands behind one before it, and there is none")
-            last = Entry(tile_id, run, offset - 1 if offset else last.offset + last.length, length)
-            yield last
+            if tile_id < low or behind > high:
+                raise ArchiveError(f"tile id {tile_id} isn't among those that the directory above says")
+            yield Entry(tile_id, run, at, length)
+            at += length
 
 
 def unpacked(stored: bytes, compression: int, most: int) -> bytes:

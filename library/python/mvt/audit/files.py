@@ -12,6 +12,9 @@ _PLACE = re.compile(r"(?:.*/)?(\d{1,2})/(\d{1,10})/(\d{1,10})\.(?:mvt|pbf)(?:\.g
 # Of a larger file the front decides.
 MOST = LIMIT + (1 << 20)
 
+# How much is read at a time of pieces that stand one behind the other.
+_LEAST_AHEAD, _MOST_AHEAD = 1 << 15, 1 << 20
+
 
 def address_of(name: str) -> Address:
     """The address of a file, with z, x and y where its name ends with them."""
@@ -30,6 +33,24 @@ def is_tile(name: str) -> bool:
 def read(path: str) -> bytes:
     with open(path, "rb", buffering=0) as file:
         return file.read(MOST)
+
+
+class ReadAhead:
+    """Reads pieces of an open file. While they stand one behind the other, more and more is read at a time."""
+
+    def __init__(self, file: int) -> None:
+        self._file = file
+        self._start = self._ahead = 0
+        self._held = b""
+
+    def __call__(self, offset: int, length: int) -> bytes:
+        """The piece, or what the file has of it. Raises OSError."""
+        at = offset - self._start
+        held = len(self._held)
+        if not 0 <= at <= held - length:
+            self._ahead = min(max(2 * self._ahead, _LEAST_AHEAD), _MOST_AHEAD) if 0 < at <= held else 0
+            self._held, self._start, at = os.pread(self._file, max(length, self._ahead), offset), offset, 0
+        return self._held[at : at + length]
 
 
 def told(path: str, name: str) -> bytes:

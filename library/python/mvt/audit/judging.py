@@ -5,9 +5,10 @@ import sys
 import tempfile
 from collections import Counter
 from contextlib import closing
+from functools import lru_cache
 from operator import itemgetter
 from pathlib import Path
-from typing import Any, Dict, List, NamedTuple, Optional, Tuple
+from typing import Any, Dict, Iterable, Iterator, List, NamedTuple, Optional, Tuple
 
 import mvt
 from mvt._reporter import Reporter
@@ -17,8 +18,9 @@ from .unpacking import LIMIT, NotUnpacked, is_zlib, unpacked
 
 ACCEPTED, REFUSED, EMPTY, NOT_UNPACKED, UNREAD = "accepted", "refused", "empty", "not unpacked", "unread"
 VERDICTS = (ACCEPTED, REFUSED, NOT_UNPACKED, EMPTY, UNREAD)
+BROKEN_VERDICTS = (REFUSED, NOT_UNPACKED, UNREAD)
 # In SQL, whether a tile is broken.
-BROKEN = f"verdict in ('{REFUSED}', '{NOT_UNPACKED}', '{UNREAD}')"
+BROKEN = f"verdict in {BROKEN_VERDICTS}"
 
 TOO_LARGE = 25
 
@@ -89,17 +91,19 @@ class Judge:
         self._last: Tuple[Content, Said] = b"", Said(EMPTY, 0, notes="NoLayers")
 
     def __call__(self, content: Content) -> Said:
-        if content is self._last[0]:
-            return self._last[1]
+        last, said = self._last
+        if content is last:
+            return said
         if not isinstance(content, bytes) or len(content) > _SMALL:
-            self._last = content, self._said(content)
-            return self._last[1]
-        said = self._kept.get(content)
-        if said is None:
+            said = self._said(content)
+            self._last = content, said
+            return said
+        known = self._kept.get(content)
+        if known is None:
             if len(self._kept) == _MOST_KEPT:
                 self._kept.clear()
-            said = self._kept[content] = self._said(content)
-        return said
+            known = self._kept[content] = self._said(content)
+        return known
 
     def _said(self, content: Content) -> Said:
         if isinstance(content, NotUnpacked):
@@ -107,9 +111,12 @@ class Judge:
         if not isinstance(content, bytes):
             return Said(UNREAD, None, notes=_told(content))
         try:
-            tile = _tile_of(content)
+            tile = unpacked(content)
         except NotUnpacked as why:
-            return Said(NOT_UNPACKED, len(content), notes=str(why))
+            # What only looks like zlib and is a tile stays as it is.
+            if not (is_zlib(content) and _is_tile(content)):
+                return Said(NOT_UNPACKED, len(content), notes=str(why))
+            tile = content
         if not tile:
             return Said(EMPTY, 0, notes="NoLayers")
         try:
@@ -118,7 +125,14 @@ class Judge:
             return Said(UNREAD, len(tile), notes="out of memory")
         if told is None:
             return Said(REFUSED, len(tile), *_columns(tile, self._report.fault(tile), len(content) < len(tile)))
-        return Said(ACCEPTED, len(tile), notes=_notes(told))
+        # The first line has the counts, and those behind it are notes.
+        return _accepted(len(tile)) if told.find(b"\n") == len(told) - 1 else Said(ACCEPTED, len(tile), notes=_notes(told))
+
+
+@lru_cache(maxsize=5000)
+def _accepted(size: int) -> Said:
+    """What is said of most tiles."""
+    return Said(ACCEPTED, size)
 
 
 def judged(address: Address, content: Content) -> Row:
@@ -128,52 +142,90 @@ def judged(address: Address, content: Content) -> Row:
 
 def judged_part(store: Store, part: Any) -> bytes:
     """The rows of a range and what is counted of them, as the bytes of an SQLite file, which the results take in at once."""
-    path, judge = store.path, Judge()
-    plain: List[Tuple[Any, ...]] = []
-    others: List[Tuple[Any, ...]] = []
-    absent = 0
-    for address, content in store.tiles(part):
-        if content is None:
-            absent += 1
-            continue
-        said = judge(content)
-        if said.verdict is ACCEPTED and not said.notes:
-            plain.append((path, *address, said.bytes))
-        else:
-            others.append((path, *address, *said))
+    judge = Judge()
     with closing(sqlite3.connect(":memory:", isolation_level=None)) as database:
+        block = _Block(database, store.path)
+        plain, others = block.plain, block.others
+        for address, content in store.tiles(part):
+            if content is None:
+                block.absent += 1
+                continue
+            said = judge(content)
+            if said.verdict is ACCEPTED and not said.notes:
+                plain.append((*address, said.bytes))
+            else:
+                others.append((*address, *said))
+            if len(plain) >= _AT_A_TIME or len(others) >= _AT_A_TIME:
+                block.write()
+        return block.file()
+
+
+# So many rows of a kind are held as objects of Python.
+_AT_A_TIME = 1000
+
+_VERDICT = Row._fields.index("verdict")
+_KIND = itemgetter(*(Row._fields.index(name) for name in ("z", "verdict", "cause", "cause_name", "layer_name")))
+_NOTED = itemgetter(*(Row._fields.index(name) for name in ("z", "verdict", "notes")))
+
+
+class _Block:
+    """What is said of the tiles of a part, in a database in memory."""
+
+    def __init__(self, database: sqlite3.Connection, path: str) -> None:
+        self.absent = self._tiles = 0
+        # Most tiles are accepted, and nothing else is said of them: these have an address and their bytes.
+        self.plain: List[Tuple[Any, ...]] = []
+        self.others: List[Tuple[Any, ...]] = []
+        self._database = database
+        self._kinds: "Counter[Tuple[Any, ...]]" = Counter()
+        self._notes: "Counter[Tuple[Any, ...]]" = Counter()
+        self._cells: "Counter[Tuple[int, int, int]]" = Counter()
+        self._broken: "Counter[Tuple[int, int, int]]" = Counter()
+        # A text within a command isn't bound for each row.
+        text = path.replace("'", "''")
+        self._insert = f"insert into tiles values ('{text}'{', ?' * len(Row._fields)})"
+        self._insert_plain = f"""insert into tiles (store, z, x, y, name, bytes, verdict, notes)
+ values ('{text}', ?, ?, ?, ?, ?, '{ACCEPTED}', '')"""
         database.executescript(f"{_BLOCK} begin;")
-        database.executemany(_INSERT_PLAIN, plain)
-        database.executemany(f"insert into tiles values (?{', ?' * len(Row._fields)})", others)
-        _count(database, plain, others)
-        database.execute(_COUNT_CELLS)
-        database.execute("insert into asked values (?)", (len(plain) + len(others) + absent,))
+
+    def write(self) -> None:
+        """Has the rows so far be in the tables, and counts them."""
+        plain, others = self.plain, self.others
+        self._database.executemany(self._insert_plain, plain)
+        self._database.executemany(self._insert, others)
+        for z, tiles in Counter(map(itemgetter(0), plain)).items():
+            self._kinds[z, ACCEPTED, None, None, None] += tiles
+        self._kinds.update(map(_KIND, others))
+        for z, verdict, said in map(_NOTED, others):
+            if said and verdict in (ACCEPTED, EMPTY):
+                self._notes.update((z, note) for note in {line.split(" ")[0] for line in said.split("; ")} - {"and"})
+        self._cells.update(_cells(plain))
+        self._cells.update(_cells(others))
+        self._broken.update(_cells(row for row in others if row[_VERDICT] in BROKEN_VERDICTS))
+        self._tiles += len(plain) + len(others)
+        plain.clear()
+        others.clear()
+
+    def file(self) -> bytes:
+        """All of it, as the bytes of a file."""
+        self.write()
+        database = self._database
+        kinds, notes, cells = self._kinds.items(), self._notes.items(), self._cells.items()
+        database.executemany("insert into counts values (?, ?, ?, ?, ?, ?)", ((*kind, tiles) for kind, tiles in kinds))
+        database.executemany("insert into note_counts values (?, ?, ?)", ((*note, tiles) for note, tiles in notes))
+        rows = ((*cell, tiles, self._broken[cell]) for cell, tiles in cells)
+        database.executemany("insert into cells values (?, ?, ?, ?, ?)", rows)
+        database.execute("insert into asked values (?)", (self._tiles + self.absent,))
         database.execute("commit")
         return _file_of(database)
 
 
-# Most tiles are accepted, and nothing else is said of them.
-_INSERT_PLAIN = f"""insert into tiles (store, z, x, y, name, bytes, verdict, notes)
- values (?, ?, ?, ?, ?, ?, '{ACCEPTED}', '')"""
-
-_COUNT_CELLS = f"""insert into cells select z, x >> z - {SQUARES}, y >> z - {SQUARES}, count(*), sum({BROKEN}) from tiles
- where z > {SQUARES} group by 1, 2, 3"""
-
-_KIND = itemgetter(*(1 + Row._fields.index(name) for name in ("z", "verdict", "cause", "cause_name", "layer_name")))
-_NOTED = itemgetter(*(1 + Row._fields.index(name) for name in ("z", "verdict", "notes")))
-
-
-def _count(database: sqlite3.Connection, plain: List[Tuple[Any, ...]], others: List[Tuple[Any, ...]]) -> None:
-    """Adds to a block what is counted of its tiles: by verdict, cause and layer, and by note."""
-    kinds: "Counter[Tuple[Any, ...]]" = Counter(map(_KIND, others))
-    notes: "Counter[Tuple[Any, ...]]" = Counter()
-    for z, tiles in Counter(row[1] for row in plain).items():
-        kinds[z, ACCEPTED, None, None, None] += tiles
-    for z, verdict, said in map(_NOTED, others):
-        if said and verdict in (ACCEPTED, EMPTY):
-            notes.update((z, note) for note in {line.split(" ")[0] for line in said.split("; ")} - {"and"})
-    database.executemany("insert into counts values (?, ?, ?, ?, ?, ?)", ((*kind, tiles) for kind, tiles in kinds.items()))
-    database.executemany("insert into note_counts values (?, ?, ?)", ((*kind, tiles) for kind, tiles in notes.items()))
+def _cells(rows: Iterable[Tuple[Any, ...]]) -> Iterator[Tuple[int, int, int]]:
+    """The squares that tiles of deep zooms lie in."""
+    for row in rows:
+        z = row[0]
+        if z is not None and z > SQUARES:
+            yield z, row[1] >> z - SQUARES, row[2] >> z - SQUARES
 
 
 def _file_of(database: sqlite3.Connection) -> bytes:
@@ -189,22 +241,10 @@ def _file_of(database: sqlite3.Connection) -> bytes:
 
 def _notes(told: bytes) -> str:
     """The notes behind the first line of a report."""
-    if told.count(b"\n") == 1:
-        return ""
     notes = [line[5:] for line in told.decode().splitlines()[1:]]
     if len(notes) > MOST_NOTES:
         notes[MOST_NOTES:] = [f"and {len(notes) - MOST_NOTES} more"]
     return "; ".join(notes)
-
-
-def _tile_of(stored: bytes) -> bytes:
-    """The tile, out of its compression. What only looks like zlib and is a tile stays as it is."""
-    try:
-        return unpacked(stored)
-    except NotUnpacked:
-        if is_zlib(stored) and _is_tile(stored):
-            return stored
-        raise
 
 
 def _is_tile(content: bytes) -> bool:

@@ -18,7 +18,7 @@ def first_of(z: int) -> int:
 def place_of(tile_id: int) -> Tuple[int, int, int]:
     """The zoom, the column and the row of a tile, counted from the north."""
     z = ((3 * tile_id + 1).bit_length() - 1) // 2
-    along = tile_id - first_of(z)
+    along = tile_id - _FIRSTS[z]
     x, y = _STEPS[along & 255]
     column, row, turn = _block(z, along >> 8)
     if turn == _SWAPPED:
@@ -28,6 +28,10 @@ def place_of(tile_id: int) -> Tuple[int, int, int]:
     elif turn == _OVER:
         x, y = 15 - x, 15 - y
     return z, column + x, row + y
+
+
+# Of each zoom, and of the one behind the deepest.
+_FIRSTS = [first_of(z) for z in range(DEEPEST + 2)]
 
 
 def id_of(z: int, x: int, y: int) -> int:

@@ -22,19 +22,27 @@ def is_zlib(stored: bytes) -> bool:
 
 
 def is_packed(stored: bytes) -> bool:
-    return stored.startswith(GZIP) or is_zlib(stored)
+    return stored[:2] == GZIP or is_zlib(stored)
 
 
 def unpacked(stored: bytes) -> bytes:
     """The bytes of a tile. At most one byte beyond the limit is made, which tells that there are more."""
     if not is_packed(stored):
         return stored
-    tile = b""
-    while stored:
+    stream = zlib.decompressobj(_WINDOW_OF_EITHER)
+    try:
+        tile = stream.decompress(stored, min(LIMIT, _USUAL * len(stored)))
+    except zlib.error as why:
+        raise NotUnpacked(_reason(why)) from why
+    return tile if stream.eof and not stream.unused_data else _unusual(stored)
+
+
+def _unusual(stored: bytes) -> bytes:
+    """The same, of what is several members, or broken, or larger than usual."""
+    tile, stored = _member(stored, LIMIT + 1)
+    while stored and len(tile) <= LIMIT:
         member, stored = _member(stored, LIMIT + 1 - len(tile))
-        tile = tile + member if tile else member
-        if len(tile) > LIMIT:
-            break
+        tile += member
     return tile
 
 
@@ -47,9 +55,9 @@ def _member(stored: bytes, most: int) -> Tuple[bytes, bytes]:
             made += stream.decompress(stream.unconsumed_tail, most - len(made))
     except zlib.error as why:
         raise NotUnpacked(_reason(why)) from why
-    if len(made) < most and not stream.eof:
+    if not stream.eof and len(made) < most:
         raise NotUnpacked("cut off")
-    rest = stream.unused_data.lstrip(b"\0")
+    rest = stream.unused_data and stream.unused_data.lstrip(b"\0")
     if rest and len(made) < most and not rest.startswith(GZIP):
         raise NotUnpacked(f"{len(rest)} more bytes behind its end")
     return made, rest

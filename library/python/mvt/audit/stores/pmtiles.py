@@ -10,6 +10,7 @@ from typing import BinaryIO, Callable, Iterator, List, NamedTuple, Optional, Tup
 
 from ..archive import GZIP, HEADER, MAGIC, MOST, ArchiveError, Directory, Entry, Header, Section, unpacked
 from ..files import MOST as MOST_OF_A_TILE
+from ..files import ReadAhead
 from ..tile_ids import DEEPEST, first_of, id_of, place_of
 from ..unpacking import LIMIT, NotUnpacked
 from . import Address, Content, Key, Options, State, Store, StoreError
@@ -214,7 +215,7 @@ class PMTiles(Store):
         last, below = where.low, (*above, where.section)
         try:
             pointer: Optional[Entry] = None
-            for entry in _own(self._opened(file, where, above), where):
+            for entry in self._opened(file, where, above).entries(where.low, where.high):
                 if pointer is not None and entry.tile_id > first:
                     yield from self._entries(file, self._leaf(pointer, entry.tile_id), first, below)
                 if entry.tile_id + entry.run > first and entry.run:
@@ -273,11 +274,11 @@ class PMTiles(Store):
         where, first, end = piece
         place, content = 0, self._contents(file)
         try:
-            for entry in _own(self._directory(file, where), where):
-                low, high = max(first - place, 0), min(end - place, entry.run)
-                place += entry.run
-                for tile_id in range(entry.tile_id + low, entry.tile_id + high):
-                    yield Address(*place_of(tile_id)), content(*entry[2:])
+            for tile_id, run, offset, length in self._directory(file, where).entries(where.low, where.high):
+                low = tile_id if place >= first else tile_id + first - place
+                place += run
+                for each in range(low, tile_id + run if place <= end else tile_id + run - (place - end)):
+                    yield Address(*place_of(each)), content(offset, length)
                 if place >= end:
                     return
         except ArchiveError as why:
@@ -286,15 +287,15 @@ class PMTiles(Store):
 
     def _contents(self, file: BinaryIO) -> Callable[[int, int], Union[bytes, Exception]]:
         """What reads tiles by their offset and length. Equal ones in turn have one content."""
-        return lru_cache(maxsize=1)(partial(self._content, file))
+        return lru_cache(maxsize=1)(partial(self._content, ReadAhead(file.fileno()), self.header))
 
-    def _content(self, file: BinaryIO, offset: int, length: int) -> Union[bytes, Exception]:
-        header, tiles, end = self.header, self.header.tiles, offset + length
+    def _content(self, read: ReadAhead, header: Header, offset: int, length: int) -> Union[bytes, Exception]:
+        tiles, end = header.tiles, offset + length
         if end > tiles.length:
             return StoreError(f"its bytes end at {end:,} of {tiles.length:,} bytes of tiles")
         length = min(length, MOST_OF_A_TILE)
         try:
-            stored = os.pread(file.fileno(), length, tiles.offset + offset)
+            stored = read(tiles.offset + offset, length)
             if len(stored) < length:
                 return StoreError("the file ends in it")
             # What unpacks a tile knows gzip by its first bytes.
@@ -318,18 +319,10 @@ class PMTiles(Store):
             if entry is None:
                 z, x, y = place_of(tile_id)
                 raise FileNotFoundError(errno.ENOENT, f"no tile {z}/{x}/{y}")
-            content = self._content(file, *entry[2:])
+            content = self._contents(file)(*entry[2:])
         if isinstance(content, Exception):
             raise OSError(errno.EIO, str(content)) from content
         return content
-
-
-def _own(directory: Directory, where: Where) -> Iterator[Entry]:
-    """The entries of a directory. Raises ArchiveError at one that the directory above doesn't let it have."""
-    for entry in directory.entries():
-        if not where.low <= entry.tile_id <= where.high - max(entry.run, 1):
-            raise ArchiveError(f"tile id {entry.tile_id} isn't among those that the directory above says")
-        yield entry
 
 
 def _checked(key: Key) -> Tuple[int, int]:
