@@ -6,8 +6,9 @@ TILES is a folder that examples/producers/gdal and tilemaker filled. Of its tile
 turn, compressed by gzip, as caches are, until there are so many: 100,000 and 1,000,000 where no count is given. MVT is the
 program. The module mvt has to be found (PYTHONPATH, MVT_LIBRARY). Peaks of memory are of the client and of its largest
 worker, seen twenty times a second. The microseconds of a processor are those that the client says it took from the first
-tile to the last, Dask's scheduler included, and those of all workers together, without what they take for one tile. A client
-feeds as many workers as take the time that it takes itself."""
+tile to the last, Dask's scheduler included; then these without what it takes anyway each second for four workers that do
+nothing; and those of all workers together, without what they take for one tile. A client feeds as many workers as take the
+time that a tile takes it itself."""
 
 import gzip
 import json
@@ -20,9 +21,12 @@ import time
 from pathlib import Path
 
 import psutil
+from mvt._reporter import Reporter
+from mvt.audit import engine
 from mvt.audit.judging import judged_part
-from mvt.audit.results import Results
+from mvt.audit.results import Block, Results
 from mvt.audit.stores import opened
+from mvt.audit.unpacking import unpacked
 
 sys.path.append(str(Path(__file__).resolve().parents[1] / "tests" / "library" / "audit"))
 import archives  # noqa: E402
@@ -121,7 +125,54 @@ def audited(path, room, *more):
         return json.load(out), seconds, seen, seen.spent(process.pid)
 
 
-def measured(tiles, count, name):
+class Ready:
+    """A store whose parts were judged beforehand: each is the same block in a file."""
+
+    kind = "ready"
+
+    def __init__(self, path, parts):
+        self.path, self.parts = path, parts
+
+    def ranges(self, _):
+        return iter(range(self.parts))
+
+    def spread(self, _):
+        return None
+
+
+def ready_part(store, _):
+    return Path(store.path).read_bytes()
+
+
+def fed(tiles, size, parts):
+    """Microseconds of a processor that the client takes for a tile of ready parts, from the scheduler to the index."""
+    with tempfile.TemporaryDirectory() as room:
+        make(Path(room, "a.pmtiles"), tiles, size)
+        store = opened(str(Path(room, "a.pmtiles")))
+        state = store.state()
+        ready = Ready(str(Path(room, "block")), parts)
+        Path(ready.path).write_bytes(judged_part(store, next(store.ranges(size))))
+        results = Results(Path(room))
+        done = results.begin([ready], [state], size)
+        engine.judged_part = ready_part
+        with engine.workers(WORKERS, None) as client:
+            begun = time.process_time()
+            engine.run(client, results, [ready], done, lambda added: None)
+            results.make_index()
+            spent = time.process_time() - begun
+        engine.judged_part = judged_part
+        results.close()
+    return 1e6 * spent / size / parts
+
+
+def at_rest():
+    """Seconds of a processor that the client takes each second, with workers that do nothing."""
+    with engine.workers(WORKERS, None):
+        time.sleep(2)
+        return spent_by(lambda: time.sleep(5)) / 5
+
+
+def measured(tiles, count, name, rest):
     """A row of the table. What the workers' beginning and end take is measured with one tile, and taken off."""
     with tempfile.TemporaryDirectory() as room:
         make(Path(room, name), tiles, 1)
@@ -129,9 +180,11 @@ def measured(tiles, count, name):
     with tempfile.TemporaryDirectory() as room:
         make(Path(room, name), tiles, count)
         found, seconds, seen, spent = audited(Path(room, name), room)
-    client, workers = 1e6 * found["seconds"]["client"] / count, 1e6 * (spent - none) / count
-    return (f"| {count:,} | `mvt-audit {name}`, {WORKERS} workers | {seconds:.1f} | {found['seconds']['start']:.1f} | {found['seconds']['work']:.1f} |"
-            f" {found['tiles_a_second']:,} | {client:.1f} and {workers:.0f} | {workers / client:.0f} | {seen.client} and {seen.worker} |"
+    seconds_of = found["seconds"]
+    client, workers = 1e6 * seconds_of["client"] / count, 1e6 * (spent - none) / count
+    own = client - 1e6 * rest * seconds_of["work"] / count
+    return (f"| {count:,} | `mvt-audit {name}`, {WORKERS} workers | {seconds:.1f} | {seconds_of['start']:.1f} | {seconds_of['work']:.1f} |"
+            f" {found['tiles_a_second']:,} | {client:.2f}, {own:.2f} and {workers:.0f} | {workers / own:.0f} | {seen.client} and {seen.worker} |"
             f" {found['verdicts']['refused']:,} |")
 
 
@@ -144,12 +197,15 @@ def alone(tiles, name):
         results.begin([store], [store.state()], ADDED)
         block = judged_part(store, next(store.ranges(ADDED)))
         part = next(store.ranges(JUDGED))
-        judged, added = [], []
+        contents, reporter = [content for _, content in store.tiles(part)], Reporter()
+        judged, needed, added = [], [], []
         for number in range(TRIED):
             judged.append(spent_by(lambda: judged_part(store, part)))
-            added.append(spent_by(lambda: results.add(store.path, number, block)))  # noqa: B023
+            needed.append(spent_by(lambda: [reporter(unpacked(content)) for content in contents]))
+            added.append(spent_by(lambda: results.add([Block(store.path, number, block)])))  # noqa: B023
         results.close()
-    return f"{name}: a worker {1e6 * min(judged) / JUDGED:.1f} µs a tile, the client {1e6 * min(added) / ADDED:.2f}"
+    return (f"{name}: a worker {1e6 * min(judged) / JUDGED:.1f} µs a tile, of which unpacking and judging take"
+            f" {1e6 * min(needed) / JUDGED:.1f}; the client {1e6 * min(added) / ADDED:.2f}")
 
 
 def spent_by(call):
@@ -182,12 +238,16 @@ def main():
     print("The best of parts that are judged and added by one process, without Dask:")
     for name in NAMES:
         print(alone(tiles, name), flush=True)
-    print()
+    for size, parts in ((20_000, 50), (50_000, 40)):
+        best = min(fed(tiles, size, parts) for _ in range(3))
+        print(f"{parts} ready parts of {size:,} tiles: the client {best:.2f} µs a tile, with Dask's scheduler and the index", flush=True)
+    rest = at_rest()
+    print(f"\nWith {WORKERS} workers that do nothing the client takes {1000 * rest:.0f} ms of a processor a second.\n")
     print("| Tiles | Program | Seconds | The start | Judging | Tiles a second | Processor, µs a tile | Workers a client can feed | Peak, MB | Refused |")
     print("|---|---|---|---|---|---|---|---|---|---|")
     for count in counts:
         for name in NAMES:
-            print(measured(tiles, count, name), flush=True)
+            print(measured(tiles, count, name, rest), flush=True)
         if count <= FILES:
             with tempfile.TemporaryDirectory() as room:
                 seconds, spent, refused = checked(sys.argv[2], tiles, count, room)
@@ -195,4 +255,5 @@ def main():
                   f" {count / seconds:,.0f} | {1e6 * spent / count:.0f} | | | {refused:,} |", flush=True)
 
 
-main()
+if __name__ == "__main__":
+    main()
