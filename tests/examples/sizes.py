@@ -1,10 +1,10 @@
 #!/usr/bin/env python3
 """Tiles of the sizes at which code could turn, each through each command: sizes.py PROGRAM
 
-None, one and two of a kind, around each bound up to which entries are compared one by one, are found by their places or
-texts lie in place, a hundred and a thousand, the ends of ranges, a layer of each kind, and layers that aren't canonical
-or break a rule at their end. With ample memory no command may report that it is out of memory. This script makes a tile's
-canonical bytes and its JSON by itself, and compares them with what the program says. The last line is
+None, one and two of a kind, around each bound up to which entries are compared one by one, are found by their places
+or texts lie in place, a hundred and a thousand, the ends of ranges, a layer of each kind, and layers that aren't
+canonical or break a rule at their end. With ample memory no command may report that it is out of memory. This script
+makes a tile's canonical bytes and its JSON by itself, and compares them with what the program says. The last line is
 'sizes: N passed, M failed'."""
 
 import json
@@ -191,11 +191,13 @@ def tiles():
 
 
 def payload_of(item):
-    """The canonical payload. That of version 1 begins with its version; in that of version 3 it stands behind the values."""
+    """The canonical payload: of version 1 with its version in front, of version 3 with it behind the values."""
     if "name" in item:
         return layer_bytes(item)
     length, version = item["foreign"]["length"], item["foreign"]["version"]
-    return b"\x78\x01\x0a\x01\x61" if version == 1 else b"\x0a\x01\x61" + b"\x22\x02\x28\x01" * (length // 4 - 2) + b"\x78\x03\x1a\x01k"
+    if version == 1:
+        return b"\x78\x01\x0a\x01\x61"
+    return b"\x0a\x01\x61" + b"\x22\x02\x28\x01" * (length // 4 - 2) + b"\x78\x03\x1a\x01k"
 
 
 def run(program, words, tile):
@@ -232,11 +234,12 @@ def wrong_answers(program, layers):
 
 
 def awkward_answers(program, layer):
-    """What is answered otherwise of a layer that isn't canonical, and of one whose last feature names a key too many."""
+    """What is answered otherwise of a layer in another form, and of one whose last feature names a key too many."""
     tile, canonical = field(3, awkward_bytes(layer)), field(3, layer_bytes(layer))
     ok = f"ok layers 1 features {len(layer['features'])} canonical no\n".encode()
     keys = len(first_uses(key for feature in layer["features"] for key, _ in feature["attributes"]))
-    broken = field(3, layer_bytes(layer) + field(2, field(2, varint(keys) + b"\x00") + b"\x18\x01\x22\x03\x09\x32\x22"))
+    last = field(2, varint(keys) + b"\x00") + b"\x18\x01\x22\x03\x09\x32\x22"
+    broken = field(3, layer_bytes(layer) + field(2, last))
     fault = f"layer 0 feature {len(layer['features'])} at 0: 14 KeyIndex\n".encode()
     for words, given, wanted in [
         (["rewrite"], tile, (0, canonical, b"")),
