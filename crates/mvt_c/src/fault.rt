@@ -1,6 +1,7 @@
 //! A fault as C sees it.
 ghost use Rattle.std.specs.Prelude.{◌≡◌};
 ghost use Rattle.mvt_c.specs.Faults.{IsFault, index_of};
+ghost use Rattle.mvt_c.specs.Places.{IsGiven};
 
 use crate::lent::Bytes;
 use mvt_tile::Fault as TileFault;
@@ -19,7 +20,9 @@ pub struct Fault {
 
 impl Fault {
     pub(crate) fn new(fault: TileFault) -> Self
-        ensures { IsFault fault result }
+        ensures is { IsFault fault result }
+        // What is told is what `mvt_locate` and `mvt_explain` take.
+        ensures given { IsGiven result fault }
     {
         Fault {
             layer: index_of_part(fault.layer),
