@@ -651,18 +651,14 @@ const VERSION_3: [u8; 74] = [
     0x0F, 0x22, 0x02, 0x28, 0x10, 0x78, 0x03, 0x1A, 0x01, 0x6B,
 ];
 
-const VERSION_3_ROWS: Rows = Rows {
-    layers: &[LayerRow {
-        version: 3,
-        extent: 0,
-        name: NOWHERE,
-        features: NOWHERE,
-        keys: NOWHERE,
-        values: NOWHERE,
-        bytes: Span { start: 0, len: 72 },
-    }],
-    texts: VERSION_3.split_at(2).1,
-    ..NONE
+const VERSION_3_LAYER: LayerRow = LayerRow {
+    version: 3,
+    extent: 0,
+    name: NOWHERE,
+    features: NOWHERE,
+    keys: NOWHERE,
+    values: NOWHERE,
+    bytes: Span { start: 0, len: 72 },
 };
 
 fn is_reading_refused(rt: &(impl Abort + AllocGlobal), bytes: &[u8], rows: &Rows) -> bool {
@@ -690,9 +686,14 @@ fn rows_refused_memory(rt: HostRuntime) {
 // Where a value of a layer of another version finds no memory, the rows are the same.
 #[test]
 fn rows_of_another_version_refused_memory(rt: HostRuntime) {
+    let rows = Rows {
+        layers: &[VERSION_3_LAYER],
+        texts: &VERSION_3[2..],
+        ..NONE
+    };
     let mut refused: u32 = 0;
     for _ in 0..2 {
-        let is_refused = is_reading_refused(&rt, &VERSION_3, &VERSION_3_ROWS);
+        let is_refused = is_reading_refused(&rt, &VERSION_3, &rows);
         refused = refused.saturating_add(u32::from(is_refused));
     }
     expect!(rt; refused <= 1);
