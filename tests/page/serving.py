@@ -18,12 +18,17 @@ TILES = TOP / "examples" / "tiles"
 COMMAND = [os.environ["MVT_PAGE"]] if "MVT_PAGE" in os.environ else [sys.executable, "-m", "mvt.page"]
 
 
+def heed_signals():
+    """Who runs the tests in the background may ignore Ctrl-C and hanging up, and what is started here would too."""
+    for number in (signal.SIGINT, signal.SIGHUP):
+        signal.signal(number, signal.SIG_DFL)
+
+
 class Serving:
     """A server that runs until the block ends."""
 
     def __init__(self, *words, browser=False, env=None, **how):
-        # Who runs the tests in the background may ignore Ctrl-C, and what is started here would too.
-        self.how = {"preexec_fn": lambda: signal.signal(signal.SIGINT, signal.SIG_DFL), **how}
+        self.how = {"preexec_fn": heed_signals, **how}
         self.words = [*COMMAND, *map(str, words), *([] if browser else ["--no-browser"])]
         self.env = {**os.environ, **(env or {})}
 
