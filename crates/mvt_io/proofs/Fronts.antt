@@ -74,17 +74,19 @@ TakesPrefix-after a b c before bytes after whole e p q =
 -- the states of a writer
 
 pub Wrote-nil : (s : Outflow) → Wrote s s []
-Wrote-nil s = record { taken = Appends-nil s.taken; flushes = refl; faults = refl }
+Wrote-nil s = record { taken = Appends-nil s.taken; writes = omega arith; flushes = refl; faults = refl }
 
 pub Wrote-more : (a b c : Outflow) (first then : List ℕ) → Wrote a b first → Wrote b c then → Wrote a c (first ++ then)
 Wrote-more a b c first then p q = record {
   taken = Appends-trans a.taken b.taken c.taken first then p.taken q.taken;
+  writes = omega (arith, p.writes, q.writes, length-append first then);
   flushes = q.flushes ∙ p.flushes;
   faults = q.faults ∙ p.faults;
 }
 
 pub WroteFront-nil : (s : Outflow) (bytes : List ℕ) → WroteFront s s bytes None
-WroteFront-nil s bytes = record { taken = TakesPrefix-nil s.taken s.taken bytes (keeps s.taken); flushes = refl; faults = refl }
+WroteFront-nil s bytes =
+    record { taken = TakesPrefix-nil s.taken s.taken bytes (keeps s.taken); writes = omega arith; flushes = refl; faults = refl }
   where
     keeps : (o : Option (List ℕ)) → Keeps o o
     keeps None = tt
@@ -99,6 +101,7 @@ pub WroteFront-after : (a b c : Outflow) (before bytes after whole : List ℕ) (
     → whole ≡ before ++ (bytes ++ after) → Wrote a b before → WroteFront b c bytes kind → WroteFront a c whole kind
 WroteFront-after a b c before bytes after whole kind is p q = record {
   taken = TakesPrefix-after a.taken b.taken c.taken before bytes after whole is p.taken q.taken;
+  writes = omega (arith, p.writes, q.writes, ap length is, length-append before (bytes ++ after), length-append bytes after);
   flushes = q.flushes ∙ p.flushes;
   faults = ended_later a.faults b.faults c.faults kind p.faults q.faults;
 }
@@ -106,10 +109,11 @@ WroteFront-after a b c before bytes after whole kind is p q = record {
 -- the states of a reader
 
 -- one read more, which may be the last
-pub Reads-once : (most : ℕ) (old now new : Inflow) (given more : List ℕ) → Consumes old.left now.left given → Consumes now.left new.left more
+pub Reads-once : (most : ℕ) (old now new : Inflow) (given more : List ℕ) → Consumes old.left now.left given
+    → Consumes now.left new.left more
     → length given < most → now.reads ≤ old.reads + length given → new.reads ≤ now.reads + 1 → new.asked ≤ max old.asked 65536
-    → Reads most old new
-Reads-once most old now new given more before then few reads once asked = record {
+    → now.empty ≡ old.empty → new.empty ≤ now.empty + 1 → Reads most old new
+Reads-once most old now new given more before then few reads once asked none empty = record {
   count = omega arith;
   asked = asked;
   turns = (
@@ -117,6 +121,7 @@ Reads-once most old now new given more before then few reads once asked = record
     Consumes-trans old.left now.left new.left given more before then,
     omega (arith, length-append given more),
   );
+  ends = omega (arith, none, empty);
 }
 
 -- a front was read, and then the rest of what was asked for
@@ -131,8 +136,8 @@ TakesAtMost-then most missing a b c bytes before sum then = (
 
 pub Reads-then : (most missing : ℕ) (old now new : Inflow) (bytes : List ℕ) → Consumes old.left now.left bytes
     → length bytes + missing ≡ most → now.reads ≤ old.reads + length bytes → now.asked ≤ max old.asked 65536
-    → Reads missing now new → Reads most old new
-Reads-then most missing old now new bytes before sum reads asked then = record {
+    → now.empty ≡ old.empty → Reads missing now new → Reads most old new
+Reads-then most missing old now new bytes before sum reads asked none then = record {
   count = omega (arith, then.count);
   asked = grind (arith, common_steps);
   turns = (
@@ -140,6 +145,7 @@ Reads-then most missing old now new bytes before sum reads asked then = record {
     Consumes-trans old.left now.left new.left bytes then.turns.0 before then.turns.1,
     omega (arith, then.turns.2, length-append bytes then.turns.0),
   );
+  ends = omega (arith, none, then.ends);
 }
 
 pub Consumes-none : (a b : Option (List ℕ)) → Keeps a b → Consumes a b []

@@ -1,9 +1,9 @@
 -- The devices over memory: what each of their calls answers, and their state after it.
-use Rattle.std.specs.Prelude.{ℕ, ◌-◌, ◌&&◌, ◌||◌, min, max, nat_lt, nat_le, Bool, List, ◌++◌, length, take, drop, Some, Result, Ok, Err, if◌then◌else◌}
+use Rattle.std.specs.Prelude.{ℕ, ◌-◌, ◌&&◌, ◌||◌, min, max, nat_lt, nat_le, Bool, true, false, List, ◌++◌, length, take, drop, Some, Result, Ok, Err, if◌then◌else◌}
 use Rattle.std.specs.declared.io.ErrorKind.{ErrorKind}
 use Rattle.std.specs.declared.io.ErrorKind.TheVariants.{Other, WriteZero}
 use Rattle.mvt_io.specs.Counts.{counted}
-use Rattle.mvt_io.specs.States.{Faults, Inflow, Outflow, failed, passed}
+use Rattle.mvt_io.specs.States.{Faults, Inflow, Outflow, after_reading, failed, passed}
 
 -- a source: the bytes that it has left, the most that it gives in a read, the number of the first
 -- read that fails
@@ -12,13 +12,14 @@ pub record SourceState : Type 0 where
   pub step : ℕ
   pub fails_from : ℕ
   pub calls : ℕ
+  pub empty : ℕ
   pub given : ℕ
   pub asked : ℕ
   pub faults : Faults
 
 -- what is known of it as of any reader
 abbrev pub inflow_of : SourceState → Inflow
-inflow_of s = record { left = Some s.left; reads = s.calls; given = s.given; asked = s.asked; faults = s.faults }
+inflow_of s = record { left = Some s.left; reads = s.calls; empty = s.empty; given = s.given; asked = s.asked; faults = s.faults }
 
 -- reads are numbered from 0
 abbrev pub read_fails : SourceState → Bool
@@ -44,6 +45,7 @@ after_read s room = if read_fails s
     else record s {
       left = drop (can_give s room) s.left;
       calls = counted s.calls;
+      empty = after_reading (Ok (can_give s room)) s.empty;
       given = can_give s room;
       asked = max s.asked room;
       faults = passed s.faults;
@@ -59,11 +61,12 @@ pub record SinkState : Type 0 where
   pub flush_fails : Bool
   pub calls : ℕ
   pub flushes : ℕ
+  pub flushed : Bool
   pub faults : Faults
 
 -- what is known of it as of any writer
 abbrev pub outflow_of : SinkState → Outflow
-outflow_of s = record { taken = Some s.taken; flushes = s.flushes; faults = s.faults }
+outflow_of s = record { taken = Some s.taken; writes = s.calls; flushes = s.flushes; flushed = s.flushed; faults = s.faults }
 
 -- writes are numbered from 0, and a nonempty one fails once the room is used up
 abbrev pub refuses : SinkState → List ℕ → Bool
@@ -84,10 +87,11 @@ write_answer s piece = if refuses s piece then Err Other else Ok (accepted s pie
 -- the sink after a write of a piece
 abbrev pub after_write : SinkState → List ℕ → SinkState
 after_write s piece = if refuses s piece
-    then record s { calls = counted s.calls; faults = failed Other s.faults }
+    then record s { calls = counted s.calls; flushed = false; faults = failed Other s.faults }
     else record s {
       taken = s.taken ++ take (accepted s piece) piece;
       calls = counted s.calls;
+      flushed = false;
       faults = if stalls s piece then failed WriteZero s.faults else passed s.faults;
     }
 
@@ -98,5 +102,5 @@ flush_answer s = if s.flush_fails then Err Other else Ok tt
 -- the sink after a flush
 abbrev pub after_flush : SinkState → SinkState
 after_flush s = if s.flush_fails
-    then record s { flushes = counted s.flushes; faults = failed Other s.faults }
-    else record s { flushes = counted s.flushes; faults = passed s.faults }
+    then record s { flushes = counted s.flushes; flushed = false; faults = failed Other s.faults }
+    else record s { flushes = counted s.flushes; flushed = true; faults = passed s.faults }

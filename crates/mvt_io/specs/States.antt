@@ -10,19 +10,23 @@ pub record Faults : Type 0 where
   pub last : Option ErrorKind
   pub ended : Bool
 
--- a reader: the bytes that it will still give, where they are known; how many reads there were; how many bytes the last one
--- gave; the most bytes that one asked for; and those that failed
+-- a reader: the bytes that it will still give, where they are known; how many reads there were, and how many of them gave
+-- nothing; how many bytes the last one gave; the most bytes that one asked for; and those that failed
 pub record Inflow : Type 0 where
   pub left : Option (List ℕ)
   pub reads : ℕ
+  pub empty : ℕ
   pub given : ℕ
   pub asked : ℕ
   pub faults : Faults
 
--- a writer: the bytes that it took, where they are known; how many flushes there were; and the calls that failed
+-- a writer: the bytes that it took, where they are known; how many writes and how many flushes there were; whether the last
+-- call of all was a flush that went well, so that all that it took was flushed; and the calls that failed
 pub record Outflow : Type 0 where
   pub taken : Option (List ℕ)
+  pub writes : ℕ
   pub flushes : ℕ
+  pub flushed : Bool
   pub faults : Faults
 
 -- after a call that went well
@@ -37,6 +41,11 @@ failed kind old = record { count = counted old.count; last = Some kind; ended = 
 abbrev pub after_call : {A : Type 0} → Result A ErrorKind → Faults → Faults
 after_call (Ok x) old = passed old
 after_call (Err kind) old = failed kind old
+
+-- how many reads gave nothing, after one more
+abbrev pub after_reading : Result ℕ ErrorKind → ℕ → ℕ
+after_reading (Ok n) empty = if n == 0 then counted empty else empty
+after_reading (Err kind) empty = empty
 
 -- after a write; to take nothing of a nonempty piece is a fault of kind WriteZero
 abbrev pub after_writing : Result ℕ ErrorKind → List ℕ → Faults → Faults

@@ -29,11 +29,13 @@ TakesPrefix old new bytes = (n : ℕ) × (n ≤ length bytes) × Appends old new
 abbrev pub EachGives : Inflow → Inflow → Type 0
 EachGives old new = (taken : List ℕ) × Consumes old.left new.left taken × (new.reads ≤ old.reads + length taken + 1)
 
--- so many reads at most, none of which asked for more than 65,536 bytes, and each of which gave some but the last
+-- so many reads at most, none of which asked for more than 65,536 bytes, and each of which gave some but the last; so one
+-- read at most found the end
 pub record Reads (most : ℕ) (old new : Inflow) : Type 0 where
   pub count : new.reads ≤ old.reads + most
   pub asked : new.asked ≤ max old.asked 65536
   pub turns : EachGives old new
+  pub ends : new.empty ≤ old.empty + 1
 
 -- the next bytes were read, so many at most; where they are fewer, these were all. Each read but the last gave some
 pub record ReadFront (most : ℕ) (old new : Inflow) (bytes : List ℕ) : Type 0 where
@@ -47,14 +49,16 @@ pub record ReadFront (most : ℕ) (old new : Inflow) (bytes : List ℕ) : Type 0
 abbrev pub ReadOn : ℕ → Inflow → Inflow → List ℕ → List ℕ → Type 0
 ReadOn most old new before all = (given : List ℕ) × (all ≡ before ++ given) × ReadFront most old new given
 
--- the bytes were taken, and no call failed
+-- the bytes were taken, in no more writes than there are bytes, and no call failed
 pub record Wrote (old new : Outflow) (bytes : List ℕ) : Type 0 where
   pub taken : Appends old.taken new.taken bytes
+  pub writes : new.writes ≤ old.writes + length bytes
   pub flushes : new.flushes ≡ old.flushes
   pub faults : NoneFailed old.faults new.faults
 
--- a front of the bytes was taken, and then a call failed with this kind, if there is one
+-- a front of the bytes was taken, in no more writes than there are bytes, and then a call failed with this kind, if there is one
 pub record WroteFront (old new : Outflow) (bytes : List ℕ) (kind : Option ErrorKind) : Type 0 where
   pub taken : TakesPrefix old.taken new.taken bytes
+  pub writes : new.writes ≤ old.writes + length bytes
   pub flushes : new.flushes ≡ old.flushes
   pub faults : EndedBy kind old.faults new.faults

@@ -2,6 +2,7 @@
 ghost use Rattle.std.specs.Prelude.{◌≡◌, false, None};
 
 use super::failures::Failures;
+use super::source::count_empty;
 use super::{Sink, Source};
 use std::io::{ErrorKind, Read, Write};
 use std::marker::Model;
@@ -17,10 +18,13 @@ use std::marker::Model;
 pub struct Host<T> {
     inner: T,
     reads: u64,
+    empty: u64,
     given: usize,
     asked: usize,
     failures: Failures,
+    writes: u64,
     flushes: u64,
+    flushed: bool,
 }
 
 impl<T> Model for Host<T> {
@@ -31,10 +35,13 @@ impl<T> Model for Host<T> {
     ghost view = { λ h. record {
       inner = h.inner;
       reads = h.reads;
+      empty = h.empty;
       given = h.given;
       asked = h.asked;
       faults = h.failures;
+      writes = h.writes;
       flushes = h.flushes;
+      flushed = h.flushed;
     } };
 }
 
@@ -43,19 +50,25 @@ impl<T> Host<T> {
         ensures { result ≡ record {
           inner = inner;
           reads = 0;
+          empty = 0;
           given = 0;
           asked = 0;
           faults = record { count = 0; last = None; ended = false };
+          writes = 0;
           flushes = 0;
+          flushed = false;
         } }
     {
         Host {
             inner,
             reads: 0,
+            empty: 0,
             given: 0,
             asked: 0,
             failures: Failures::none(),
+            writes: 0,
             flushes: 0,
+            flushed: false,
         }
     }
 }
@@ -64,6 +77,7 @@ impl<T: Read> Source for Host<T> {
     ghost state = { λ h. record {
       left = T.remaining h.inner;
       reads = h.reads;
+      empty = h.empty;
       given = h.given;
       asked = h.asked;
       faults = h.faults;
@@ -74,6 +88,7 @@ impl<T: Read> Source for Host<T> {
         self.asked = self.asked.max(buffer.len());
         match self.inner.read(buffer) {
             Ok(count) => {
+                self.empty = count_empty(self.empty, count);
                 self.given = count;
                 self.failures.pass();
                 Ok(count)
@@ -91,11 +106,15 @@ impl<T: Read> Source for Host<T> {
 impl<T: Write> Sink for Host<T> {
     ghost state = { λ h. record {
       taken = T.contents h.inner;
+      writes = h.writes;
       flushes = h.flushes;
+      flushed = h.flushed;
       faults = h.faults;
     } };
 
     fn write(&mut self, piece: &[u8]) -> Result<usize, ErrorKind> {
+        self.writes = self.writes.saturating_add(1);
+        self.flushed = false;
         match self.inner.write(piece) {
             Ok(count) => {
                 if count == 0 && !piece.is_empty() {
@@ -115,8 +134,10 @@ impl<T: Write> Sink for Host<T> {
 
     fn flush(&mut self) -> Result<(), ErrorKind> {
         self.flushes = self.flushes.saturating_add(1);
+        self.flushed = false;
         match self.inner.flush() {
             Ok(()) => {
+                self.flushed = true;
                 self.failures.pass();
                 Ok(())
             }

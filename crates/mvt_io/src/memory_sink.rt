@@ -1,5 +1,6 @@
 //! A writer into memory, for tests.
 ghost use Rattle.std.specs.Prelude.{◌≡◌, ◌≤◌, [], false, length, None, Some, IfOk};
+ghost use Rattle.std.specs.Result.{is_ok};
 ghost use Rattle.std.specs.Io.KnownBytes.{Keeps, WriteAppends};
 ghost use Rattle.mvt_io.specs.Counts.{counted};
 ghost use Rattle.mvt_io.specs.Devices.{outflow_of, write_answer, after_write, flush_answer, after_flush};
@@ -27,6 +28,7 @@ pub struct MemorySink {
     flush_fails: bool,
     calls: u64,
     flushes: u64,
+    flushed: bool,
     failures: Failures,
 }
 
@@ -44,6 +46,7 @@ impl Model for MemorySink {
       flush_fails = s.flush_fails;
       calls = s.calls;
       flushes = s.flushes;
+      flushed = s.flushed;
       faults = s.failures;
     } };
 
@@ -70,6 +73,7 @@ impl MemorySink {
           flush_fails = flush_fails;
           calls = 0;
           flushes = 0;
+          flushed = false;
           faults = record { count = 0; last = None; ended = false };
         }) }
     {
@@ -81,6 +85,7 @@ impl MemorySink {
             flush_fails,
             calls: 0,
             flushes: 0,
+            flushed: false,
             failures: Failures::none(),
         })
     }
@@ -117,12 +122,15 @@ impl Sink for MemorySink {
         // What every writer promises.
         ensures within { IfOk result (λ n. n ≤ length piece.now) }
         ensures bytes { WriteAppends (Some self.old.taken) (Some self.new.taken) result piece.now }
+        ensures writes { self.new.calls ≡ counted self.old.calls }
         ensures flushes { self.new.flushes ≡ self.old.flushes }
+        ensures flushed { self.new.flushed ≡ false }
         ensures faults { self.new.faults ≡ after_writing result piece.now self.old.faults }
     {
         let number = self.calls;
         let left = self.room - self.bytes.len();
         self.calls = number.saturating_add(1);
+        self.flushed = false;
         if number >= self.fails_from || (left == 0 && !piece.is_empty()) {
             self.failures.add(ErrorKind::Other);
             return Err(ErrorKind::Other);
@@ -143,10 +151,13 @@ impl Sink for MemorySink {
 
         // What every writer promises.
         ensures bytes { Keeps (Some self.old.taken) (Some self.new.taken) }
+        ensures writes { self.new.calls ≡ self.old.calls }
         ensures flushes { self.new.flushes ≡ counted self.old.flushes }
+        ensures flushed { self.new.flushed ≡ is_ok result }
         ensures faults { self.new.faults ≡ after_call result self.old.faults }
     {
         self.flushes = self.flushes.saturating_add(1);
+        self.flushed = !self.flush_fails;
         if self.flush_fails {
             self.failures.add(ErrorKind::Other);
             return Err(ErrorKind::Other);

@@ -3,10 +3,11 @@ ghost use Rattle.std.specs.Prelude.{◌≡◌, ◌≤◌, max, length, false, No
 ghost use Rattle.std.specs.Io.KnownBytes.{ReadConsumes};
 ghost use Rattle.mvt_io.specs.Counts.{counted, given_by};
 ghost use Rattle.mvt_io.specs.Devices.{inflow_of, read_answer, after_read};
-ghost use Rattle.mvt_io.specs.States.{after_call};
+ghost use Rattle.mvt_io.specs.States.{after_call, after_reading};
 
 use super::Source;
 use super::failures::Failures;
+use super::source::count_empty;
 use std::io::ErrorKind;
 use std::marker::Model;
 
@@ -22,6 +23,7 @@ pub struct MemorySource {
     step: usize,
     fails_from: u64,
     calls: u64,
+    empty: u64,
     given: usize,
     asked: usize,
     failures: Failures,
@@ -38,6 +40,7 @@ impl Model for MemorySource {
       step = s.step;
       fails_from = s.fails_from;
       calls = s.calls;
+      empty = s.empty;
       given = s.given;
       asked = s.asked;
       faults = s.failures;
@@ -56,6 +59,7 @@ impl MemorySource {
           step = step;
           fails_from = fails_from;
           calls = 0;
+          empty = 0;
           given = 0;
           asked = 0;
           faults = record { count = 0; last = None; ended = false };
@@ -67,6 +71,7 @@ impl MemorySource {
             step,
             fails_from,
             calls: 0,
+            empty: 0,
             given: 0,
             asked: 0,
             failures: Failures::none(),
@@ -99,6 +104,7 @@ impl Source for MemorySource {
         ensures within { IfOk result (λ n. n ≤ length buffer.new) }
         ensures bytes { ReadConsumes (Some self.old.left) (Some self.new.left) result buffer.new }
         ensures reads { self.new.calls ≡ counted self.old.calls }
+        ensures empty { self.new.empty ≡ after_reading result self.old.empty }
         ensures given { self.new.given ≡ given_by result }
         ensures asked { self.new.asked ≡ max self.old.asked (length buffer.old) }
         ensures faults { self.new.faults ≡ after_call result self.old.faults }
@@ -115,6 +121,7 @@ impl Source for MemorySource {
         let count = self.step.min(buffer.len()).min(left.len());
         buffer[..count].copy_from_slice(&left[..count]);
         self.at += count;
+        self.empty = count_empty(self.empty, count);
         self.given = count;
         self.failures.pass();
         Ok(count)

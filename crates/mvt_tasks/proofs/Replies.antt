@@ -53,12 +53,6 @@ missing_reply limit tile names i line first is =
     ap (λ o. layers_reply_or o (bytes_reply limit (pick tile names))) ((missing_at tile names i first).1)
     ∙ missing_or (slice_get names i) line (bytes_reply limit (pick tile names)) is
 
-pub refused_printed : (limit : ℕ) (of_tile : Tile → Reply) (input : List ℕ) (error : DecodeError) (line : List ℕ)
-    → Reports (fault_of error) (fault_within limit input) → IsRefusal error line → IsPrinted limit of_tile input (refused line)
-refused_printed limit of_tile input Memory line prints is = absurd is
-refused_printed limit of_tile input (Fault fault) line prints is = inr (fault, prints, ap refused is)
-refused_printed limit of_tile input (Read kind) line prints is = absurd is
-
 -- the reply for the named layers of a tile
 
 module _ (limit : ℕ) (tile : Tile) (names : List (List ℕ)) where

@@ -180,13 +180,14 @@ pub record EndsEarly (Says : List ℕ → Reply → Type 0) (holds : List ℕ �
 abbrev pub FlushesAtMost : ℕ → ℕ → Failure → Type 0
 FlushesAtMost old new failure = (new ≡ old) ⊎ ((failure ≡ Write) × (new ≡ counted old))
 
--- all is said of the files of these names, the output was flushed once, none of its calls failed, and the status tells how
+-- all is said of the files of these names, the output was then flushed once, none of its calls failed, and the status tells how
 -- the files were judged; or the run was over before, with a front of this on the output, not flushed but by a call that
 -- failed, and the last line tells why
 abbrev pub TellsFiles : (List ℕ → Reply → Type 0) → (List ℕ → Option (List ℕ)) → List (List ℕ) → RunState → RunState → ℕ → Type 0
 TellsFiles Says holds names old new status =
     ((tally : Tally) × ReportsFiles Says holds names old new (summary (length names) tally) tally
-    × (new.output.flushes ≡ counted old.output.flushes) × NoneFailed old.output.faults new.output.faults × (status ≡ status_after tally))
+    × (new.output.flushes ≡ counted old.output.flushes) × (new.output.flushed ≡ true) × NoneFailed old.output.faults new.output.faults
+    × (status ≡ status_after tally))
     ⊎ ((failure : Failure) × FailsWriting old.output.faults new.output.faults failure × (status ≡ status_of failure)
     × EndsEarly Says holds names old new (line_of failure) failure × FlushesAtMost old.output.flushes new.output.flushes failure)
 

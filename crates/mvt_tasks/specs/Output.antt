@@ -1,5 +1,5 @@
 -- What a run puts on its output and its error stream, and its status.
-use Rattle.std.specs.Prelude.{◌≡◌, ℕ, ◌+◌, ◌⊎◌, Bool, List, ◌++◌, length, take, nat_lt, find, not, Option, Some, None, bytes_eq, if◌then◌else◌, codes, MatchOption, IfSome, IsSome, ⊤}
+use Rattle.std.specs.Prelude.{◌≡◌, ℕ, ◌+◌, ◌⊎◌, Bool, true, List, ◌++◌, length, take, nat_lt, find, not, Option, Some, None, bytes_eq, if◌then◌else◌, codes, MatchOption, IfSome, IsSome, ⊤}
 use Rattle.std.specs.Option.{option_map}
 use Rattle.std.specs.List.{list_any}
 use Rattle.std.specs.Io.KnownBytes.{Appends}
@@ -133,9 +133,9 @@ status_with (Some line) = 1
 abbrev pub HasOutput : Reply → Type 0
 HasOutput reply = MatchOption reply.error_line (IsSome reply.output) (λ line. ⊤)
 
--- a writer took a text whole, and was flushed once
+-- a writer took a text whole, and then was flushed once
 abbrev pub PutOut : Outflow → Outflow → List ℕ → Type 0
-PutOut old new text = Appends old.taken new.taken text × (new.flushes ≡ counted old.flushes)
+PutOut old new text = Appends old.taken new.taken text × (new.flushes ≡ counted old.flushes) × (new.flushed ≡ true)
 
 -- the text of a reply was put out; of a reply without a text the output stayed as it was
 abbrev pub PutsText : Type 0 → (List ℕ → Type 0) → Reply → Type 0

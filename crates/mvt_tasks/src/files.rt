@@ -1,5 +1,5 @@
 //! The commands `check` and `explain` over files.
-ghost use Rattle.std.specs.Prelude.{◌≡◌, ◌≢◌, ◌<◌, ◌⊎◌, [], ◌∷◌, ◌++◌, ℕ, List, length, map, string_bytes, IfOk, IfErr, IfSome, OnOk, OnErr};
+ghost use Rattle.std.specs.Prelude.{◌≡◌, ◌≢◌, ◌<◌, ◌⊎◌, [], ◌∷◌, ◌++◌, ℕ, List, true, length, map, string_bytes, IfOk, IfErr, IfSome, OnOk, OnErr};
 ghost use Rattle.std.specs.List.{flat_map};
 ghost use Rattle.std.specs.Io.KnownBytes.{Appends};
 ghost use Rattle.mvt_io.specs.Counts.{counted};
@@ -79,7 +79,8 @@ fn tell_all<F: Folder, W: Sink, E: Sink>(
         (run_state (F.visits folder.new) (W.state writer.new) (E.state errors.new))
         (summary (length (map string_bytes names.now)) tally) tally) }
     ensures flushed { OnOk result
-        ((W.state writer.new).flushes ≡ counted (W.state writer.old).flushes) }
+        (((W.state writer.new).flushes ≡ counted (W.state writer.old).flushes)
+        × ((W.state writer.new).flushed ≡ true)) }
     ensures unflushed { IfErr result
         (FlushesAtMost (W.state writer.old).flushes (W.state writer.new).flushes) }
     ensures sound { OnOk result

@@ -24,7 +24,8 @@ use Rattle.mvt_tile.proofs.PayloadLemmas.{payloads_live, payloads_nothing}
 use Rattle.mvt_tile.proofs.StreamLemmas.{fault_stays, calm_front}
 
 -- no read yet
-pub fed_start : (limit : ℕ) (Has : List (List ℕ) → List Item → Type 0) (offset : ℕ) (raw : List ℕ) (a : Option (List ℕ)) → Has [] [] → raw ≡ [] → offset ≡ 0
+pub fed_start : (limit : ℕ) (Has : List (List ℕ) → List Item → Type 0) (offset : ℕ) (raw : List ℕ) (a : Option (List ℕ)) → Has [] []
+    → raw ≡ [] → offset ≡ 0
     → HasFed limit Has offset raw a a 0
 fed_start limit Has offset raw a has none zero = record {
   items = [];
@@ -44,7 +45,8 @@ weaker_fed (Read k) o h = tt
 module _ (limit : ℕ) (Has : List (List ℕ) → List Item → Type 0) (offset : ℕ) (raw : List ℕ) (a b c : Option (List ℕ)) (reads : ℕ)
     (has : HasFed limit Has offset raw a b reads) where
   -- one piece more
-  pub fed_more : (buffer piece : List ℕ) (n : ℕ) (Next : List (List ℕ) → List Item → Type 0) (place : ℕ) (left : List ℕ) → Consumes b c (take n buffer)
+  pub fed_more : (buffer piece : List ℕ) (n : ℕ) (Next : List (List ℕ) → List Item → Type 0) (place : ℕ) (left : List ℕ)
+      → Consumes b c (take n buffer)
       → piece ≡ take n buffer → 0 < n → n ≤ length buffer
       → ((new : List Item) × Next (payloads_in has.given ++ payloads_in (raw ++ piece)) new × (length new ≤ place)
       × ((s : List ℕ) → IsLive limit offset has.items raw s → IsLive limit place new left (s ++ piece)))
@@ -92,10 +94,12 @@ module _ (limit : ℕ) (Has : List (List ℕ) → List Item → Type 0) (offset 
 
 -- one read more, which may be the last
 
-pub fed_reads : (limit : ℕ) (Has : List (List ℕ) → List Item → Type 0) (offset : ℕ) (raw : List ℕ) (old now new : Inflow) (turn most : ℕ) (more : List ℕ)
+pub fed_reads : (limit : ℕ) (Has : List (List ℕ) → List Item
+    → Type 0) (offset : ℕ) (raw : List ℕ) (old now new : Inflow) (turn most : ℕ) (more : List ℕ)
     → HasFed limit Has offset raw old.left now.left turn → Consumes now.left new.left more → turn < most
-    → now.reads ≤ old.reads + turn → new.reads ≤ now.reads + 1 → new.asked ≤ max old.asked 65536 → Reads most old new
-fed_reads limit Has offset raw old now new turn most more has took below before once asked =
+    → now.reads ≤ old.reads + turn → new.reads ≤ now.reads + 1 → new.asked ≤ max old.asked 65536
+    → now.empty ≡ old.empty → new.empty ≤ now.empty + 1 → Reads most old new
+fed_reads limit Has offset raw old now new turn most more has took below before once asked none empty =
     let turns = has.turns in
     record {
       count = omega arith;
@@ -105,6 +109,7 @@ fed_reads limit Has offset raw old now new turn most more has took below before 
         Consumes-trans old.left now.left new.left has.given more has.consumed took,
         omega (arith, length-append has.given more),
       );
+      ends = omega (arith, none, empty);
     }
 
 pub kept_is_none : (a b : Option (List ℕ)) → Keeps a b → Consumes a b []
@@ -181,7 +186,13 @@ pub unread : (limit : ℕ) (s : Inflow) → ReadsTile limit s s None
 unread limit s = record {
   early = unread_early limit 65536 s.left;
   stops = unread_early limit s.given s.left;
-  reads = record { count = omega arith; asked = grind (arith, common_steps); turns = ([], Consumes-nil s.left, omega arith) };
+  reads = record {
+    count = omega arith;
+    asked = grind (arith, common_steps);
+    turns = ([], Consumes-nil s.left, omega arith);
+    ends =
+        omega arith;
+  };
   faults = refl;
 }
 

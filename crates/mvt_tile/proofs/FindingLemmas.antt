@@ -102,9 +102,3 @@ seek_broken name bytes index old new fault seeking step = (
       ∙ ap (λ a. Some (outer_fault a (of_wire (rest_cause old.rest)))) (sym step.2)
       ∙ ap (λ c. Some (outer_fault fault.at (of_wire c))) (sym step.3),
 )
-
--- an error of a payload, as its layer tells it
-pub reports_in : (n : ℕ) (e : MessageError) (fault : Option MessageFault) → Reports (fault_of e) fault
-    → ReportsAtEnd (reported_in n e) (option_map (in_layer n) fault)
-reports_in n message.Memory fault reported = tt
-reports_in n (message.Fault feature at cause) fault reported = ap (option_map (in_layer n)) reported

@@ -94,7 +94,8 @@ module _ (name : List ℕ) where
       ∙ ap (λ j. j ∷ []) same
   here (Foreign version content) item items shows same apart = absurd (false≢true shows)
 
-  behind : (i : AnItem) (items : List AnItem) → IsDistinct bytes_eq (flat_map names_in (i ∷ items)) → IsDistinct bytes_eq (flat_map names_in items)
+  behind : (i : AnItem) (items : List AnItem) → IsDistinct bytes_eq (flat_map names_in (i ∷ items))
+      → IsDistinct bytes_eq (flat_map names_in items)
   behind (Layer l) items apart = IsDistinct-tail bytes_eq l.name (flat_map names_in items) apart
   behind (Foreign version content) items apart = apart
 

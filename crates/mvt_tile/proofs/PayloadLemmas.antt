@@ -61,6 +61,7 @@ payloads_live limit offset items raw s piece live =
 pub payloads_whole : (front back all : List ℕ) → all ≡ front ++ back → back ≡ [] → payloads_in front ≡ payloads_in all
 payloads_whole front back all is none = sym (ap payloads_in (is ∙ ap (λ b. front ++ b) none ∙ append-nil front))
 
-pub payloads_behind : (raw front back all : List ℕ) → all ≡ front ++ back → back ≡ [] → payloads_in (raw ++ front) ≡ payloads_in (raw ++ all)
+pub payloads_behind : (raw front back all : List ℕ) → all ≡ front ++ back → back ≡ []
+    → payloads_in (raw ++ front) ≡ payloads_in (raw ++ all)
 payloads_behind raw front back all is none =
     sym (ap (λ b. payloads_in (raw ++ b)) (is ∙ ap (λ b. front ++ b) none ∙ append-nil front))

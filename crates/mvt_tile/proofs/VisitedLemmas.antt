@@ -35,7 +35,8 @@ module _ {V : Type 0} (limit : ℕ) (Has : List (List ℕ) → V → List Item �
       let old : StandsAs limit (Some e) (Has (payloads_in s) visitor) d s =
       subst (λ o. StandsAs limit o (Has (payloads_in s) visitor) d s) failed (subst (λ x. StandsFor limit Has x s) (sym is) stands) in
       let more : StandsAs limit (Some e) (Has (payloads_in (s ++ t)) visitor) d (s ++ t) = (old.0, reports_stays limit e s t old.1) in
-      subst (λ x. StandsFor limit Has x (s ++ t)) is (subst (λ o. StandsAs limit o (Has (payloads_in (s ++ t)) visitor) d (s ++ t)) (sym failed) more)
+      subst (λ x. StandsFor limit Has x (s ++ t)) is
+      (subst (λ o. StandsAs limit o (Has (payloads_in (s ++ t)) visitor) d (s ++ t)) (sym failed) more)
 
 pub stands_of : (limit : ℕ) (Has : List Item → Type 0) (d : Visiting) (s : List ℕ) → d.failure ≡ None → HasVisited limit Has d s
     → StandsAs limit d.failure Has d s

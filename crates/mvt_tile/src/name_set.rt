@@ -1,5 +1,5 @@
-//! The names of the layers of a tile, of which most tiles have one (Mapbox Vector Tile Specification
-//! 2.1, 4.1).
+//! The names of the layers of a tile, of which most tiles have one (Mapbox Vector Tile
+//! Specification 2.1, 4.1).
 ghost use Rattle.std.specs.Prelude.{◌≡◌, ◌∷◌, ◌||◌, ℕ, List, [], not, bytes_eq, IfOk, OnErr, IsTrue};
 ghost use Rattle.std.specs.Bool.{OnFalse};
 ghost use Rattle.std.specs.List.{list_any};

@@ -43,11 +43,13 @@ impl<V: TileVisitor> PartialTile<V> {
     /// Takes the items in a piece after the bytes that are held, and holds what is then left.
     pub(crate) fn take(&mut self, alloc: Global, piece: &[u8]) -> Result<(), DecodeError>
         requires few { (given : V.Given) × (payloads : List (List ℕ)) × (items : List Item)
-            × HasTaken (V.has_items given payloads) self.old.taken items × (length items ≤ self.old.offset) }
+            × HasTaken (V.has_items given payloads) self.old.taken items
+            × (length items ≤ self.old.offset) }
         requires small { self.old.offset + length self.old.raw.items ≤ LIMIT }
         ensures small { OnOk result (self.new.offset + length self.new.raw.items ≤ LIMIT) }
         ensures live { (given : V.Given) (payloads : List (List ℕ)) (items : List Item)
-            → HasTaken (V.has_items given payloads) self.old.taken items → length items ≤ self.old.offset
+            → HasTaken (V.has_items given payloads) self.old.taken items
+            → length items ≤ self.old.offset
             → OnOk result ((new : List Item)
             × HasTaken (V.has_items given (payloads ++ payloads_in (self.old.raw.items
             ++ piece.now))) self.new.taken new

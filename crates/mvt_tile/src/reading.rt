@@ -82,7 +82,8 @@ fn feed_all<R: Source, V: TileVisitor>(
     requires start { (given : V.Given) × HasTaken (V.has_items given []) partial.old.taken [] }
     requires raw { partial.old.raw.items ≡ [] }
     requires offset { partial.old.offset ≡ 0 }
-    ensures fed { (given : V.Given) → HasTaken (V.has_items given []) partial.old.taken [] → OnOk result
+    ensures fed { (given : V.Given) → HasTaken (V.has_items given []) partial.old.taken []
+        → OnOk result
         (HasFed LIMIT (λ payloads. HasTaken (V.has_items given payloads) partial.new.taken)
         partial.new.offset
         partial.new.raw.items (R.state reader.old).left (R.state reader.new).left 0) }

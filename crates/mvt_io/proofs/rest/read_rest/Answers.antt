@@ -10,4 +10,5 @@ returns-in_err-extend_from_slice-clause-leaves g c =
 pub returns-in_err-extend_from_slice-clause-reads : goal.returns-in_err-extend_from_slice-clause-reads
 returns-in_err-extend_from_slice-clause-reads g c =
     Reads-once _ _ (g.R.Source.state c.loop-missing.reader) _ _ _ c.loop-missing.invariant.consumed c.in-Ok.ensures.bytes.0 (omega arith)
-    c.loop-missing.invariant.reads (grind (arith, common_steps)) (grind (arith, common_steps))
+    c.loop-missing.invariant.reads (grind (arith, common_steps)) (grind (arith, common_steps)) c.loop-missing.invariant.empty
+    (grind (arith, common_steps))

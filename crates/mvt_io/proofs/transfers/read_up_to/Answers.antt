@@ -9,13 +9,16 @@ returns-in_err-extend_from_slice-clause-leaves g c =
 
 pub returns-in-Err-clause-reads : goal.returns-in-Err-clause-reads
 returns-in-Err-clause-reads g c =
-    Reads-once _ _ (g.R.Source.state c.loop-missing.reader) _ _ _ c.loop-missing.invariant.consumed (Consumes-none _ _ c.in-Err.ensures.bytes) (omega arith)
-    c.loop-missing.invariant.reads (grind (arith, common_steps)) (grind (arith, common_steps))
+    Reads-once _ _ (g.R.Source.state c.loop-missing.reader) _ _ _ c.loop-missing.invariant.consumed
+    (Consumes-none _ _ c.in-Err.ensures.bytes) (omega arith)
+    c.loop-missing.invariant.reads (grind (arith, common_steps)) (grind (arith, common_steps)) c.loop-missing.invariant.empty
+    (grind (arith, common_steps))
 
 pub returns-in_err-extend_from_slice-clause-reads : goal.returns-in_err-extend_from_slice-clause-reads
 returns-in_err-extend_from_slice-clause-reads g c =
     Reads-once _ _ (g.R.Source.state c.loop-missing.reader) _ _ _ c.loop-missing.invariant.consumed c.in-Ok.ensures.bytes.0 (omega arith)
-    c.loop-missing.invariant.reads (grind (arith, common_steps)) (grind (arith, common_steps))
+    c.loop-missing.invariant.reads (grind (arith, common_steps)) (grind (arith, common_steps)) c.loop-missing.invariant.empty
+    (grind (arith, common_steps))
 
 pub returns-then-len-ge-PIECE-clause-leaves : goal.returns-then-len-ge-PIECE-clause-leaves
 returns-then-len-ge-PIECE-clause-leaves g c =
@@ -25,4 +28,5 @@ returns-then-len-ge-PIECE-clause-leaves g c =
 pub returns-then-len-ge-PIECE-clause-reads : goal.returns-then-len-ge-PIECE-clause-reads
 returns-then-len-ge-PIECE-clause-reads g c =
     Reads-then _ c.loop-missing.missing _ (g.R.Source.state c.loop-missing.reader) _ _ c.loop-missing.invariant.consumed
-    c.loop-missing.invariant.missing c.loop-missing.invariant.reads c.loop-missing.invariant.asked c.read_rest.ensures.reads
+    c.loop-missing.invariant.missing c.loop-missing.invariant.reads c.loop-missing.invariant.asked
+    c.loop-missing.invariant.empty c.read_rest.ensures.reads

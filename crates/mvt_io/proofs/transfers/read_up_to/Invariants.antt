@@ -8,6 +8,7 @@ invariant-loop-missing g l = record {
   consumed : Consumes (g.R.Source.state l.initial.reader).left (g.R.Source.state l.reader).left l.bytes.items;
   missing : length l.bytes.items + l.missing ≡ l.fn.most;
   reads : (g.R.Source.state l.reader).reads ≤ (g.R.Source.state l.initial.reader).reads + length l.bytes.items;
+  empty : (g.R.Source.state l.reader).empty ≡ (g.R.Source.state l.initial.reader).empty;
   asked : (g.R.Source.state l.reader).asked ≤ max (g.R.Source.state l.initial.reader).asked 65536;
   faults : NoneFailed (g.R.Source.state l.initial.reader).faults (g.R.Source.state l.reader).faults;
 }

@@ -1,5 +1,6 @@
-use Rattle.std.proofs.Common.{rules}
+use Rattle.std.proofs.Common.{arith, rules}
 use Rattle.std.proofs.lemmas.Result.{err_from_is_err_and}
+use Rattle.std.proofs.lemmas.Grind.{common_steps}
 use Rattle.mvt_io.proofs.Fronts.{TakesPrefix-from_front, TakesFront-kept, TakesFront-more}
 use Rattle.mvt_io.proofs.transfers.write_all.Goals as goal
 
@@ -9,6 +10,7 @@ returns-in_err-count-clause-stopped g c =
     rw (p.1, p.2)
     (record {
       taken = TakesPrefix-from_front _ _ _ _ (TakesFront-kept _ _ _ _ _ c.loop-rest.invariant.front c.in_err-count.ensures.bytes);
+      writes = grind (arith, common_steps);
       flushes = search rules;
       faults = search rules;
     })
@@ -18,6 +20,7 @@ returns-then-count-eq0-clause-stopped g c = record {
   taken =
       TakesPrefix-from_front _ _ _ _
       (TakesFront-more _ _ _ _ _ _ c.loop-rest.invariant.front c.in_ok-count.ensures.bytes c.in_ok-count.ensures.within);
+  writes = grind (arith, common_steps);
   flushes = search rules;
   faults = search rules;
 }
@@ -25,6 +28,7 @@ returns-then-count-eq0-clause-stopped g c = record {
 pub loop-rest-preserved : goal.loop-rest-preserved
 loop-rest-preserved g c = record {
   front = TakesFront-more _ _ _ _ _ _ c.loop-rest.invariant.front c.in_ok-count.ensures.bytes c.in_ok-count.ensures.within;
+  writes = grind (arith, common_steps);
   flushes = search rules;
   faults = search rules;
 }

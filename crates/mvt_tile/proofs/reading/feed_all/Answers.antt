@@ -10,6 +10,7 @@ loop-turn-init g c = record {
   fed = λ input start. fed_start 67108864 _ _ _ _ start c.requires.raw c.requires.offset;
   small = search rules;
   reads = search rules;
+  empty = search rules;
   asked = search rules;
   faults = search rules;
 }
@@ -32,7 +33,8 @@ returns-in-Err-clause-reads g c =
     let (input, start) = c.requires.start in
     fed_reads 67108864 _ _ _ _ (g.R.Source.state c.loop-turn.reader) _ _ _ [] (c.loop-turn.invariant.fed input start)
     (kept_is_none _ _ c.in-Err.ensures.bytes) (omega arith)
-    c.loop-turn.invariant.reads (grind (arith, common_steps)) (grind (arith, common_steps))
+    c.loop-turn.invariant.reads (grind (arith, common_steps)) (grind (arith, common_steps)) c.loop-turn.invariant.empty
+    (grind (arith, common_steps))
 
 pub returns-in_err-take-clause-stopped : goal.returns-in_err-take-clause-stopped
 returns-in_err-take-clause-stopped g c =
@@ -48,7 +50,8 @@ returns-in_err-take-clause-reads g c =
     let (input, start) = c.requires.start in
     fed_reads 67108864 _ _ _ _ (g.R.Source.state c.loop-turn.reader) _ _ _ _ (c.loop-turn.invariant.fed input start)
     c.in-Ok.ensures.bytes.0 (omega arith)
-    c.loop-turn.invariant.reads (grind (arith, common_steps)) (grind (arith, common_steps))
+    c.loop-turn.invariant.reads (grind (arith, common_steps)) (grind (arith, common_steps)) c.loop-turn.invariant.empty
+    (grind (arith, common_steps))
 
 pub returns-in_err-take-clause-faults : goal.returns-in_err-take-clause-faults
 returns-in_err-take-clause-faults g c =
@@ -67,6 +70,7 @@ loop-turn-preserved g c = record {
       (c.in_ok-take.ensures.live input (payloads_in fed.given) fed.items fed.has fed.few);
   small = search rules;
   reads = search rules;
+  empty = search rules;
   asked = search rules;
   faults = search rules;
 }

@@ -16,5 +16,6 @@ invariant_of-result g c =
 
 pub returns-clause-stands : goal.returns-clause-stands
 returns-clause-stands g c = λ given start.
-    rw (c.new.ensures.raw, c.new.ensures.offset) (visited_start 67108864 _ _ (subst (λ ps. HasTaken (g.V.TileVisitor.has_items given ps) c.new.result.taken []) (sym payloads_nothing)
+    rw (c.new.ensures.raw, c.new.ensures.offset)
+    (visited_start 67108864 _ _ (subst (λ ps. HasTaken (g.V.TileVisitor.has_items given ps) c.new.result.taken []) (sym payloads_nothing)
     (c.new.ensures.taken given start)) refl refl)
