@@ -34,7 +34,7 @@ fn keep(held: Held, out: &mut Held)
 /// (`mvt_decoder_new_within`).
 #[unsafe(no_mangle)]
 pub extern "C" fn mvt_held_new(alloc: Global, most: u64, out: &mut Held) -> u32
-    ensures made { result ≡ 0 → StandsFor out.new.decoder.inner [] }
+    ensures made { result ≡ 0 → StandsFor most out.new.decoder.inner [] }
     ensures fresh { result ≡ 0 → out.new.decoder.inner.0.failure ≡ None }
     ensures most { result ≡ 0 → out.new.decoder.most ≡ most }
     ensures known { result ≢ 0 → result ≡ 2 }
@@ -61,12 +61,13 @@ pub extern "C" fn mvt_held_feed(
     again: &mut Held,
     fault: &mut Fault,
 ) -> u32
-    ensures stands { (s : List ℕ) → StandsFor held.decoder.inner s
-        → StandsFor again.new.decoder.inner (s ++ piece.now) }
-    ensures refused { result ≡ 1 → (s : List ℕ) → StandsFor held.decoder.inner s
+    // The rows so far have at most so many bytes.
+    ensures stands { (s : List ℕ) → StandsFor held.decoder.most held.decoder.inner s
+        → StandsFor held.decoder.most again.new.decoder.inner (s ++ piece.now) }
+    ensures refused { result ≡ 1 → (s : List ℕ) → StandsFor held.decoder.most held.decoder.inner s
         → IsReported (s ++ piece.now) fault.new }
     // No fault so far, but that of a field that isn't finished.
-    ensures live { result ≡ 0 → (s : List ℕ) → StandsFor held.decoder.inner s
+    ensures live { result ≡ 0 → (s : List ℕ) → StandsFor held.decoder.most held.decoder.inner s
         → IsCalm (fault_within LIMIT (s ++ piece.now)) }
     ensures most { again.new.decoder.most ≡ held.decoder.most }
     ensures status { result ≡ status_of_failure again.new.decoder.inner.0.failure }
@@ -84,9 +85,10 @@ pub extern "C" fn mvt_held_feed(
 }
 
 fn fed(decoder: &mut RowsDecoder, piece: &[u8]) -> Result<(), Refusal>
-    ensures stands { (s : List ℕ) → StandsFor decoder.old s
-        → StandsFor decoder.new (s ++ piece.now) }
-    ensures refused { IfErr result (λ refusal. (s : List ℕ) → StandsFor decoder.old s
+    ensures stands { (most : ℕ) (s : List ℕ) → StandsFor most decoder.old s
+        → StandsFor most decoder.new (s ++ piece.now) }
+    ensures refused { IfErr result (λ refusal. (most : ℕ) (s : List ℕ)
+        → StandsFor most decoder.old s
         → NotShown (s ++ piece.now) refusal) }
     ensures status { status_of result ≡ status_of_failure decoder.new.0.failure }
     ensures sticky { IsSome decoder.old.0.failure → decoder.new ≡ decoder.old }
@@ -99,14 +101,14 @@ fn fed(decoder: &mut RowsDecoder, piece: &[u8]) -> Result<(), Refusal>
 /// The tile as rows, after the last piece (`mvt_decoder_finish`).
 #[unsafe(no_mangle)]
 pub extern "C" fn mvt_held_finish(held: Held, out: &mut Rows, fault: &mut Fault) -> u32
-    ensures done { result ≡ 0 → (s : List ℕ) → StandsFor held.decoder.inner s
+    ensures done { result ≡ 0 → (s : List ℕ) → StandsFor held.decoder.most held.decoder.inner s
         → IsRead s (table_of out.new) }
     ensures within { result ≡ 0 → table_size (table_of out.new) ≤ held.decoder.most }
-    ensures refused { result ≡ 1 → (s : List ℕ) → StandsFor held.decoder.inner s
+    ensures refused { result ≡ 1 → (s : List ℕ) → StandsFor held.decoder.most held.decoder.inner s
         → IsReported s fault.new }
     // A decoder that hasn't failed wants memory for too many rows alone.
     ensures memory { result ≡ 2 → held.decoder.inner.0.failure ≡ None → (s : List ℕ)
-        → StandsFor held.decoder.inner s
+        → StandsFor held.decoder.most held.decoder.inner s
         → IsReadPast s held.decoder.most }
     ensures kept { IfSome held.decoder.inner.0.failure
         (λ error. result ≡ status_of_refusal (of_decode error)) }
@@ -124,13 +126,13 @@ pub extern "C" fn mvt_held_finish(held: Held, out: &mut Rows, fault: &mut Fault)
 }
 
 fn finished(decoder: Decoder) -> Result<Table, Refusal>
-    ensures done { IfOk result (λ table. (s : List ℕ) → StandsFor decoder.inner s
+    ensures done { IfOk result (λ table. (s : List ℕ) → StandsFor decoder.most decoder.inner s
         → IsRead s table) }
     ensures within { IfOk result (λ table. table_size table ≤ decoder.most) }
     ensures refused { IfErr result
-        (λ refusal. (s : List ℕ) → StandsFor decoder.inner s → NotShown s refusal) }
+        (λ refusal. (s : List ℕ) → StandsFor decoder.most decoder.inner s → NotShown s refusal) }
     ensures memory { status_of result ≡ 2 → decoder.inner.0.failure ≡ None → (s : List ℕ)
-        → StandsFor decoder.inner s
+        → StandsFor decoder.most decoder.inner s
         → IsReadPast s decoder.most }
     ensures kept { IfSome decoder.inner.0.failure
         (λ error. status_of result ≡ status_of_refusal (of_decode error)) }

@@ -1,4 +1,5 @@
--- Payloads that are canonical as they stand, in a layer whose keys and values are used in order (Mapbox Vector Tile Specification 2.1, 4.4).
+-- Payloads that are canonical as they stand, in a layer whose keys and values are used in order (Mapbox Vector Tile Specification
+-- 2.1, 4.4).
 use Rattle.std.specs.Prelude.{◌≡◌, ℕ, ◌≤◌, List, [], ◌∷◌, ◌++◌, length, IsUtf8}
 use Rattle.std.specs.List.{AllByRecursion}
 use Rattle.mvt_attrs.specs.declared.value.Value.{Value}

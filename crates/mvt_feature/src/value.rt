@@ -156,7 +156,8 @@ impl<'a> Kinds<'a> {
 impl ValueRef<'_> {
     fn into_value(self, alloc: Global) -> Result<Value, AllocError>
         ensures same { IfOk result (λ value. value ≡ referred_value self.entry) }
-        ensures memory { OnErr result ((text : List ℕ) × (referred_value self.entry ≡ values.Text text)
+        ensures memory { OnErr result ((text : List ℕ)
+            × (referred_value self.entry ≡ values.Text text)
             × (14 < length text)) }
     {
         match self {

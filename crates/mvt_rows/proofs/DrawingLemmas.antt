@@ -93,13 +93,6 @@ lines_drawn made lines None integers is some there h = cc
 lines_drawn made lines (Some cursor) integers is some there h =
     drawn_as (option_map Lines made) (Lines lines) integers (ap (option_map Lines) is) (some, h.0.are, h.0.steps) h.2
 
-pub lines_not_drawn : (made : Option (List (List Point))) (lines : List (List Point)) (cursor : Option Point) (integers : List ℕ)
-    → made ≡ Some lines
-    → is_some cursor ≡ false → DrawnLines lines cursor integers → IsUndrawable (option_map Lines made)
-lines_not_drawn made lines (Some cursor) integers is none h = cc
-lines_not_drawn made lines None integers is none h =
-    not_valid (option_map Lines made) (Lines lines) (ap (option_map Lines) is) (λ v. h (record { are = v.1; steps = v.2 }))
-
 pub no_lines : (made : Option (List (List Point))) (lines : List (List Point)) → made ≡ Some lines → length lines ≡ 0
     → IsUndrawable (option_map Lines made)
 no_lines made lines is none = not_valid (option_map Lines made) (Lines lines) (ap (option_map Lines) is) (λ v. omega (arith, v.0))

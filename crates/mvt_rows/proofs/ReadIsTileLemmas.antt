@@ -113,11 +113,13 @@ module _ (open_at : Places) (items : List Item) where
       (record { id = f.id; kind = kind_of f.geometry }) (places_of t) f.attributes f.geometry refl refl refl
       (joined_tags payload keys values f related.0) are in
       let rest = features_visited keys values (with_feature t payload f) xs (done ++ f ∷ []) more related.1 next in
-      subst (λ fs. AreLayerRows (with_features t (payload ∷ map (λ (x : Entry). bytes_of x.content) xs) (f ∷ more)) open_at items keys values fs)
+      subst (λ fs. AreLayerRows (with_features t (payload ∷ map (λ (x : Entry). bytes_of x.content) xs) (f ∷ more)) open_at items keys
+      values fs)
       (append_assoc done (f ∷ []) more) rest
 
 -- a layer, by its fields
-layer_is : (t : Table) (items : List Item) (fields : List Entry) (layer : ALayer) → AllByRecursion (λ (x : Entry). IsInRange x.content) fields
+layer_is : (t : Table) (items : List Item) (fields : List Entry) (layer : ALayer)
+    → AllByRecursion (λ (x : Entry). IsInRange x.content) fields
     → IsLayer fields layer → IsUtf8 layer.name → (payload : List ℕ) → (split payload).fields ≡ fields → AreItemRows t items
     → AreItemRows (with_item t payload (Layer layer)) (items ++ Layer layer ∷ [])
 layer_is t items fields layer ranges is utf8 payload split_is are =

@@ -2,5 +2,5 @@
 pub use Rattle.mvt_rows.proofs.ReadLemmas.{read_written as read_rows_are_written_written, read_too_large as read_rows_are_written_too_large, read_taken as read_rows_are_written_taken}
 pub use Rattle.mvt_rows.proofs.OneFaultLemmas.{one_fault as rows_have_one_fault}
 pub use Rattle.mvt_rows.proofs.ReadIsTileLemmas.{read_is_tile as read_table_is_tile}
-pub use Rattle.mvt_rows.proofs.ReadTableLemmas.{read_once as read_rows_are_one_table, size_same as same_rows_size}
+pub use Rattle.mvt_rows.proofs.ReadTableLemmas.{read_once as read_rows_are_one_table}
 pub use Rattle.mvt_rows.proofs.TileLemmas.{tile_once as rows_are_one_tile}

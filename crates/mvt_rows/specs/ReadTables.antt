@@ -1,7 +1,7 @@
 -- The rows that bytes are read as. Each list has the parts of its kind in the order of the tile: of a layer of version 2 its
 -- values, its keys and its features as they stand, also those that nothing names, and then its name; of another layer its bytes
 -- alone.
-use Rattle.std.specs.Prelude.{◌≡◌, ℕ, List, [], ◌∷◌, length}
+use Rattle.std.specs.Prelude.{ℕ, List, [], ◌∷◌, length}
 use Rattle.std.specs.List.{fold}
 use Rattle.mvt_wire.specs.Field.{Entry}
 use Rattle.mvt_wire.specs.Split.{split}
@@ -44,7 +44,8 @@ with_features t (payload ∷ payloads) (f ∷ features) = with_features (with_fe
 -- and the layer of version 2 that fields are
 abbrev pub with_layer : Table → List Entry → ALayer → Table
 with_layer t fields layer =
-    with_layer_row (with_features (fold with_key (fold with_value t (values_in fields)) (keys_in fields)) (features_in fields) layer.features)
+    with_layer_row (with_features (fold with_key (fold with_value t (values_in fields)) (keys_in fields)) (features_in fields)
+    layer.features)
     layer.name layer.extent (places_of t)
 
 -- and the item of a payload
@@ -61,8 +62,3 @@ with_items t (payload ∷ payloads) (item ∷ items) = with_items (with_item t p
 -- the rows of bytes that are this tile
 abbrev pub read_table : List ℕ → Tile → Table
 read_table input tile = with_items no_rows (payloads_in input) tile.items
-
--- the same rows; but where a layer has equal keys or equal values, a tag may name another one of these
-pub record AreSameRows (t u : Table) : Type 0 where
-  pub same : t ≡ record u { tags = t.tags }
-  pub count : length t.tags ≡ length u.tags

@@ -1,5 +1,5 @@
 -- The rows of a tile as they are made, item by item.
-use Rattle.std.specs.Prelude.{◌≡◌, ℕ, List, ◌++◌, length, Some}
+use Rattle.std.specs.Prelude.{◌≡◌, ℕ, ◌≤◌, List, ◌++◌, length, Some}
 use Rattle.std.specs.List.{fold}
 use Rattle.mvt_base.specs.Related.{AreRelated}
 use Rattle.mvt_attrs.specs.declared.value.Value.{Value}
@@ -8,8 +8,9 @@ use Rattle.mvt_message.specs.declared.item.Item.{Item}
 use Rattle.mvt_rows.specs.declared.rows.Span.{Span}
 use Rattle.mvt_rows.specs.declared.rows.ValueRow.{ValueRow}
 use Rattle.mvt_rows.specs.declared.places.Places.{Places}
-use Rattle.mvt_rows.specs.ReadTables.{AreSameRows, places_of, with_features, with_items}
-use Rattle.mvt_rows.specs.Tables.{Table, no_rows, with_key, with_value}
+use Rattle.mvt_rows.specs.ReadTables.{places_of, with_features, with_items}
+use Rattle.mvt_rows.specs.declared.table.visiting.RowsVisitor.{RowsVisitor}
+use Rattle.mvt_rows.specs.Tables.{Table, no_rows, table_size, with_key, with_value}
 use Rattle.mvt_rows.specs.TileRows.{text_of, value_of, IsFeature, IsItem}
 
 -- the rows of layers are these items
@@ -41,7 +42,18 @@ pub record AreLayerRows (t : Table) (open_at : Places) (items : List Item) (keys
 -- the rows are those that are read of these payloads, which are these items
 pub record HasRead (t : Table) (payloads : List (List ℕ)) (items : List Item) : Type 0 where
   pub even : length payloads ≡ length items
-  pub rows : AreSameRows t (with_items no_rows payloads items)
+  pub rows : t ≡ with_items no_rows payloads items
+
+-- the lists have no more bytes than they shall
+pub record IsWithin (most : ℕ) (rows : RowsVisitor) : Type 0 where
+  pub most_is : rows.most ≡ most
+  pub within : table_size rows.table ≤ most
+
+-- what there was before a layer: the table, the items that it is, and how many bytes its lists shall have at most
+pub record Before : Type 0 where
+  pub table : Table
+  pub items : List Item
+  pub most : ℕ
 
 -- and since the table was the first one, those of a layer's values, and of its keys and its features too
 abbrev pub HasReadValues : Table → Table → Places → List Value → Type 0
@@ -51,4 +63,4 @@ pub record HasReadFeatures (before t : Table) (open_at : Places) (keys : List (L
     (payloads : List (List ℕ)) (features : List Feature) : Type 0 where
   pub opened : open_at ≡ places_of before
   pub even : length payloads ≡ length features
-  pub rows : AreSameRows t (with_features (fold with_key (fold with_value before values) keys) payloads features)
+  pub rows : t ≡ with_features (fold with_key (fold with_value before values) keys) payloads features

@@ -6,9 +6,9 @@ ghost use Rattle.mvt_tile_value.specs.declared.tile.Tile.{Tile};
 ghost use Rattle.mvt_tile_value.specs.Tiles.{IsTile};
 ghost use Rattle.mvt_rows.specs.declared.rows_cause.RowsFault.{RowsFault};
 ghost use Rattle.mvt_rows.specs.Reading.{IsRead, IsRewritten, IsTooLarge};
-ghost use Rattle.mvt_rows.specs.ReadTables.{AreSameRows, read_table};
+ghost use Rattle.mvt_rows.specs.ReadTables.{read_table};
 ghost use Rattle.mvt_rows.specs.RowsFaults.{IsFaultOf};
-ghost use Rattle.mvt_rows.specs.Tables.{Table, table_size};
+ghost use Rattle.mvt_rows.specs.Tables.{Table};
 ghost use Rattle.mvt_rows.specs.TileRows.{IsTileOf};
 ghost use Rattle.mvt_rows.specs.Written.{IsNoTile, IsTooLargeOfRows, IsWritten};
 
@@ -24,16 +24,10 @@ pub fn read_table_is_tile()
         → IsTileOf (read_table input tile) tile }
 {}
 
-/// Bytes are read as one table, but for which of equal entries a tag names.
+/// Bytes are read as one table.
 pub fn read_rows_are_one_table()
     ensures { (input : List ℕ) (table other : Table) → IsRead input table → IsRead input other
-        → AreSameRows table other }
-{}
-
-/// The same rows have as many bytes.
-pub fn same_rows_size()
-    ensures { (table other : Table) → AreSameRows table other
-        → table_size table ≡ table_size other }
+        → table ≡ other }
 {}
 
 /// Rows that were read can be written, and are written as the canonical bytes of the tile that was

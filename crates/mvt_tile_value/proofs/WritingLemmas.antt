@@ -58,9 +58,6 @@ written_parts items i item h is =
     ∙ ap (λ b. b ++ written (drop (i + 1) items)) (written_more items i item h is)
     ∙ append_assoc (written (take i items)) (field_of item) (written (drop (i + 1) items))
 
-pub written_all : (items : List Item) (i : ℕ) → length items ≤ i → written (take i items) ≡ written items
-written_all items i h = ap written (take_all i items h)
-
 -- a front of the items has no more bytes
 pub written_within : (items : List Item) (i : ℕ) → length (written (take i items)) ≤ length (written items)
 written_within items i =

@@ -6,7 +6,7 @@ ghost use Rattle.mvt_tile.specs.Streams.{ReportsAtEnd};
 ghost use Rattle.mvt_tile.specs.TileRules.{fault_within};
 ghost use Rattle.mvt_rows.specs.Reading.{IsLayerRead, IsRead};
 ghost use Rattle.mvt_rows.specs.Tables.{no_rows, table_size};
-ghost use Rattle.mvt_rows.specs.Visiting.{AreItemRows, HasRead};
+ghost use Rattle.mvt_rows.specs.Visiting.{AreItemRows, HasRead, IsWithin};
 
 use super::Table;
 use crate::places::Places;
@@ -43,11 +43,7 @@ pub fn read_rows_within(alloc: Global, bytes: &[u8], most: u64) -> Result<Table,
     let mut rows = RowsVisitor::new(alloc, most);
     rows.table.make_room(bytes.len())?;
     let rows = visit_tile(alloc, rows, bytes)?;
-    let table = rows.into_table();
-    if !table.is_within(most) {
-        return Err(DecodeError::Memory);
-    }
-    Ok(table)
+    Ok(rows.into_table())
 }
 
 /// Reads the first layer of version 2 of a name as rows whose lists have at most so many bytes;
@@ -74,11 +70,7 @@ pub fn read_layer(
         Some(rows) => rows,
         None => return Ok(None),
     };
-    let layer = rows.into_table();
-    if !layer.is_within(most) {
-        return Err(DecodeError::Memory);
-    }
-    Ok(Some(layer))
+    Ok(Some(rows.into_table()))
 }
 
 /// Reads a tile that comes in pieces as rows, as `read_rows` does.
@@ -96,9 +88,9 @@ impl RowsVisitor {
     /// No rows yet, without memory. Their lists shall have at most so many bytes.
     pub fn new(alloc: Global, most: u64) -> Self
         ensures table { result.table ≡ no_rows }
-        ensures most { result.most ≡ most }
         ensures items { AreItemRows result.table [] }
         ensures read { HasRead result.table [] [] }
+        ensures within { IsWithin most result }
     {
         let table = Table::new(alloc);
         let opened = table.places();
@@ -129,12 +121,14 @@ impl RowsVisitor {
 }
 
 impl TileVisitor for RowsVisitor {
-    ghost use Rattle.mvt_rows.specs.Visiting.{AreItemRows, HasRead};
+    ghost use Rattle.std.specs.Prelude.{ℕ};
+    ghost use Rattle.mvt_rows.specs.Visiting.{AreItemRows, HasRead, IsWithin};
 
-    ghost Given = { Unit {0} };
+    // How many bytes the lists shall have at most.
+    ghost Given = { ℕ };
 
-    ghost has_items = { λ _ payloads rows items. AreItemRows rows.table items
-        × HasRead rows.table payloads items };
+    ghost has_items = { λ most payloads rows items. AreItemRows rows.table items
+        × HasRead rows.table payloads items × IsWithin most rows };
 
     fn visit_item(
         &mut self,
@@ -162,23 +156,23 @@ impl TileVisitor for RowsVisitor {
 }
 
 impl LayerVisitor for RowsVisitor {
-    ghost use Rattle.std.specs.Prelude.{◌≡◌, List, []};
-    ghost use Rattle.mvt_message.specs.declared.item.Item.{Item};
-    ghost use Rattle.mvt_rows.specs.Tables.{Table as Rows, without_values};
-    ghost use Rattle.mvt_rows.specs.Visiting.{AreLayerRows, HasReadFeatures, HasReadValues};
+    ghost use Rattle.std.specs.Prelude.{◌≡◌, []};
+    ghost use Rattle.mvt_rows.specs.Tables.{without_values};
+    ghost use Rattle.mvt_rows.specs.Visiting.{AreLayerRows, Before, HasReadFeatures, HasReadValues};
 
-    // The table before the layer, and the items that it is.
-    ghost Given = { Rows × List Item };
+    ghost Given = { Before };
 
-    ghost has_given = { λ given rows. without_values rows.table rows.opened ≡ given.0 };
+    ghost has_given = { λ given rows.
+        (without_values rows.table rows.opened ≡ given.table) × (rows.most ≡ given.most) };
 
     ghost has_values = { λ given rows values.
-        AreLayerRows rows.table rows.opened given.1 [] values []
-        × HasReadValues given.0 rows.table rows.opened values };
+        AreLayerRows rows.table rows.opened given.items [] values []
+        × HasReadValues given.table rows.table rows.opened values × (rows.most ≡ given.most) };
 
     ghost has_features = { λ given keys values rows payloads features.
-        AreLayerRows rows.table rows.opened given.1 keys values features
-        × HasReadFeatures given.0 rows.table rows.opened keys values payloads features };
+        AreLayerRows rows.table rows.opened given.items keys values features
+        × HasReadFeatures given.table rows.table rows.opened keys values payloads features
+        × (rows.most ≡ given.most) };
 
     fn visit_value(
         &mut self,

@@ -35,6 +35,7 @@ returns-clause-feature g c =
     λ held e.
     let there = attributes_or_fault_there c.args.keys.now held _ (rw c.deref.ensures.value at (c.in_ok-judge_tags.ensures.ok held e)) in
     record {
+      tagged = known.known.tags_are;
       attributes = there.0;
       geometry = drawn.0;
       resolved = there.1;

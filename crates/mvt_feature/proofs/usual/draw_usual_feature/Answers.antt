@@ -24,6 +24,7 @@ returns-in-Ok-clause-feature g c =
     λ held e.
     let there = attributes_or_fault_there c.args.keys.now held _ (rw c.deref.ensures.value at (c.in-Ok.ensures.ok held e)) in
     record {
+      tagged = says.known_is.tags_are;
       attributes = there.0;
       geometry = drawn.2;
       resolved = there.1;

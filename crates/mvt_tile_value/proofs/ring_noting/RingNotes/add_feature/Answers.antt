@@ -7,6 +7,7 @@ pub returns-in-Some-clause-feature : goal.returns-in-Some-clause-feature
 returns-in-Some-clause-feature c = λ layer feature begun held are.
     let drawn = (rw c.in-Some.is at c.in_ok-known.ensures.feature) held are in
     record {
+      tagged = drawn.tagged;
       attributes = drawn.attributes;
       geometry = drawn.geometry;
       resolved = drawn.resolved;
@@ -24,6 +25,7 @@ returns-in_ok-known-in-None-clause-feature c = λ layer feature begun held are.
     subst (λ l. HasBegun l feature c.begin.new.self) same
     (subst (λ f. HasBegun c.draw_usual_feature.new.visitor.layer f c.begin.new.self) begun.feature_is c.begin.ensures) in
     record {
+      tagged = drawn.tagged;
       attributes = drawn.attributes;
       geometry = drawn.geometry;
       resolved = drawn.resolved;

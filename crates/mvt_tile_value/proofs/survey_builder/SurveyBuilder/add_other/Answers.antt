@@ -26,7 +26,8 @@ returns-in-Ok-Layer-clause-found c = λ input items found count.
     let (item, is, valid, visited) = c.in-Ok-Layer.ensures.item items start start in
     let reported = rw c.in-Ok-Layer.field-0-is at visited in
     let (layer, has, both) =
-    layer_told (HasGiven items) (HasFeatures items) c.args.payload.now c.visit_version_2.new.visitor c.in-Ok-Layer.name c.in-Ok-Layer.field-0-1
+    layer_told (HasGiven items) (HasFeatures items) c.args.payload.now c.visit_version_2.new.visitor c.in-Ok-Layer.name
+    c.in-Ok-Layer.field-0-1
     (λ i. IsItem c.args.payload.now i × ValidItem i) item reported (is, valid) in
     let noted = subst (λ n. AreNotedSoFar n c.visit_version_2.new.visitor layer.features) count has.2 in (
       Layer layer,

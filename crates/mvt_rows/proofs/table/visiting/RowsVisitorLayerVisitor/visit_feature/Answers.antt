@@ -26,13 +26,14 @@ returns-in_ok-keep_within-in-Ok-clause-feature c = λ given held payloads featur
       f,
       drawn.is,
       (
-        subst (λ t. AreLayerRows t open_at given.1 c.args.keys.now held (features ++ f ∷ [])) (sym made)
-            (feature_visited before open_at given.1 c.args.keys.now held features tags known opened drawn.attributes drawn.geometry
+        subst (λ t. AreLayerRows t open_at given.items c.args.keys.now held (features ++ f ∷ [])) (sym made)
+            (feature_visited before open_at given.items c.args.keys.now held features tags known opened drawn.attributes drawn.geometry
             (ap (λ (p : Places). p.parts) c.places-opened.ensures) (ap (λ (p : Places). p.integers) c.places-opened.ensures) drawn.kind
             named has.0),
-        subst (λ t. HasReadFeatures given.0 t open_at c.args.keys.now held (payloads ++ c.args.payload.now ∷ []) (features ++ f ∷ []))
+        subst (λ t. HasReadFeatures given.table t open_at c.args.keys.now held (payloads ++ c.args.payload.now ∷ []) (features ++ f ∷ []))
             (sym here)
-            (feature_read given.0 before open_at c.args.keys.now held payloads features c.args.payload.now tags known drawn.attributes
-            drawn.geometry has.1 named drawn.is drawn.kind),
+            (feature_read given.table before open_at c.args.keys.now held payloads features c.args.payload.now tags known drawn.attributes
+            drawn.geometry has.1 (c.tags.ensures ∙ drawn.tagged) drawn.kind),
+        has.2,
       ),
     )
