@@ -1,5 +1,6 @@
 -- Entries that are known by their places, and those of them that are used.
 use Rattle.std.proofs.Common.{◌≡◌, ◌≢◌, ◌⊎◌, ℕ, zero, suc, ◌+◌, ◌-◌, ◌<◌, ◌≤◌, Bool, List, [], ◌∷◌, ◌++◌, length, map, set, get_or, take, drop, replicate, Some, Contains, Decides, bytes_eq, slice_get, slice_index, inl, inr, refl, sym, ap, ap₂, subst, ◌∙◌, ⊎_elim, arith, append_assoc, append-nil, Result, Ok, Err, OnOk}
+use Rattle.std.specs.Option.{option_to_list}
 use Rattle.std.proofs.lemmas.Bool.{cases_eq, cases_lt}
 use Rattle.std.proofs.lemmas.List.{get_or_default, get_or_past, get_or-set_same, get_or-set_other, get_or_append_left, length_push, length-set, length-take, get_or-take, length-replicate, get_or-replicate, map-append, nil_from_length}
 use Rattle.std.proofs.lemmas.Option.{slice_get_within, get_or_from_slice_get, slice_get-get_or}
@@ -13,7 +14,7 @@ use Rattle.mvt_attrs.specs.Pools.{key_pool, value_pool}
 use Rattle.mvt_attrs.specs.Tags.{Names}
 use Rattle.mvt_attrs.specs.TagPlaces.{tags_in}
 use Rattle.mvt_attrs.specs.TagRules.{pairs_of}
-use Rattle.mvt_attrs.specs.Using.{AreUses, AreUsesOf, UsesAre, HasUses, IsUsedBy, used_in, used_of}
+use Rattle.mvt_attrs.specs.Using.{AreUses, AreUsesOf, UsesAre, HasUses, IsUsedBy, entries_at, entries_of, used_in, used_of}
 use Rattle.mvt_attrs.specs.Values.{equal_values}
 use Rattle.mvt_base.specs.Related.{AreRelated}
 use Rattle.mvt_attrs.specs.declared.used_entries.LayerEntries.{LayerEntries}
@@ -144,9 +145,6 @@ marks_more marks longer n used mark so_far is_used is_free grown =
     at_end : (i : ℕ) → i ≡ n → get_or (marks ++ mark ∷ []) i 0 ≡ mark
     at_end i last =
         ap (λ k. get_or (marks ++ mark ∷ []) k 0) (last ∙ sym so_far.count) ∙ get_or-append_seam marks mark [] 0
-
-pub marks_none : (used : ℕ) → AreFirstMarks [] 0 used
-marks_none used = record { count = refl; front = λ i within lt. absurd (omega arith); rest = λ i le. refl }
 
 -- ---- what is used
 
@@ -714,3 +712,25 @@ too_many_used attributes old limit uses many =
     (sym (all_used old.keys uses.0.no_places))
     (subst (λ vs. (limit < length (key_pool old.keys.distinct attributes)) ⊎ (limit < length (value_pool vs attributes)))
     (sym (all_used old.values uses.1.no_places)) many)
+
+-- the entries that were added
+
+entries_are : {A : Type 0} → (distinct : List A) (places : List ℕ) (entries : List A) → length places ≡ length entries
+    → ((i : ℕ) (x : A) → slice_get entries i ≡ Some x → slice_get distinct (slice_index places i) ≡ Some x)
+    → entries ≡ entries_at distinct places
+entries_are distinct [] [] size placed = refl
+entries_are distinct [] (x ∷ entries) size placed = absurd (omega (arith, size))
+entries_are distinct (p ∷ places) [] size placed = absurd (omega (arith, size))
+entries_are distinct (p ∷ places) (x ∷ entries) size placed =
+    ap (λ ys. x ∷ ys) (entries_are distinct places entries (omega (arith, size)) (λ i y at. placed (suc i) y at))
+    ∙ ap (λ o. option_to_list o ++ entries_at distinct places) (sym (placed 0 x refl))
+
+pub entries_told : {A : Type 0} → (uses : UsedEntries A) (entries : List A) → AreUsesOf uses entries → entries ≡ entries_of uses
+entries_told uses [] are = sym (ap (entries_at uses.distinct) are.no_places)
+entries_told uses (x ∷ entries) are = entries_are uses.distinct uses.places.items (x ∷ entries) are.count are.placed
+
+pub keys_told : (uses : UsedEntries (List ℕ)) (entries : List (List ℕ)) → AreUsesOf uses entries → entries ≡ entries_of uses
+keys_told uses entries are = entries_told uses entries are
+
+pub values_told : (uses : UsedEntries Value) (entries : List Value) → AreUsesOf uses entries → entries ≡ entries_of uses
+values_told uses entries are = entries_told uses entries are

@@ -1,6 +1,7 @@
 -- The entries of a layer that its features use, each once, in order of first use (4.4). Entries are known by
 -- places: equal ones have one place.
-use Rattle.std.specs.Prelude.{◌≡◌, ◌≢◌, ℕ, ◌+◌, ◌<◌, List, [], ◌∷◌, Some, length, slice_get, slice_index}
+use Rattle.std.specs.Prelude.{◌≡◌, ◌≢◌, ℕ, ◌+◌, ◌<◌, List, [], ◌∷◌, ◌++◌, Some, length, slice_get, slice_index}
+use Rattle.std.specs.Option.{option_to_list}
 use Rattle.mvt_attrs.specs.declared.used_entries.UsedEntries.{UsedEntries}
 use Rattle.mvt_attrs.specs.declared.used_entries.LayerEntries.{LayerEntries}
 use Rattle.mvt_attrs.specs.declared.value.Attribute.{Attribute}
@@ -35,6 +36,14 @@ UsesAre distinct places marks used (x ∷ entries) = AreUses distinct places mar
 
 abbrev pub AreUsesOf : {A : Type 0} → UsedEntries A → List A → Type 0
 AreUsesOf uses entries = UsesAre uses.distinct uses.places.items uses.marks.items uses.used.items entries
+
+-- the entries that were added, in their order: each stands at its place
+abbrev pub entries_at : {A : Type 0} → List A → List ℕ → List A
+entries_at distinct [] = []
+entries_at distinct (place ∷ places) = option_to_list (slice_get distinct place) ++ entries_at distinct places
+
+abbrev pub entries_of : {A : Type 0} → UsedEntries A → List A
+entries_of uses = entries_at uses.distinct uses.places.items
 
 -- the entries that are used
 abbrev pub used_in : {A : Type 0} → List ℕ → List A → List A → List A

@@ -11,6 +11,8 @@ ghost use Rattle.mvt_attrs.specs.Pools.{key_pool, value_pool};
 ghost use Rattle.mvt_attrs.specs.Tags.{Names, Resolved};
 ghost use Rattle.mvt_attrs.specs.TagRules.{count_rules, pair_rules, tag_rules, tag_fault};
 ghost use Rattle.mvt_attrs.specs.TagPlaces.{tags_in, IsIn};
+ghost use Rattle.mvt_attrs.specs.declared.used_entries.UsedEntries.{UsedEntries};
+ghost use Rattle.mvt_attrs.specs.Using.{AreUsesOf, entries_of};
 
 /// Tags without a fault are resolved to just one list of attributes, and resolved tags have no
 /// fault.
@@ -107,4 +109,12 @@ pub fn tags_stay()
         (attributes : List Attribute) →
         AreDistinct keys → AreDistinct values → Names keys values tags attributes →
         tags ≡ tags_in (keys ++ more) (values ++ further) attributes }
+{}
+
+/// Which entries were added can be read from what holds them.
+pub fn uses_tell_entries()
+    ensures keys { (uses : UsedEntries (List ℕ)) (entries : List (List ℕ))
+        → AreUsesOf uses entries → entries ≡ entries_of uses }
+    ensures values { (uses : UsedEntries Value) (entries : List Value)
+        → AreUsesOf uses entries → entries ≡ entries_of uses }
 {}

@@ -73,8 +73,10 @@ pub(crate) fn make_ready(
     named_by: &mut Vec<u32>,
     feature: u32,
 ) -> Result<(), AllocError>
-    requires { OnTrue is_grouped (IsReady texts.now first_indices.old.items named_by.old.items feature) }
-    ensures ready { OnOk result (IsReady texts.now first_indices.new.items named_by.new.items feature) }
+    requires { OnTrue is_grouped
+        (IsReady texts.now first_indices.old.items named_by.old.items feature) }
+    ensures ready { OnOk result
+        (IsReady texts.now first_indices.new.items named_by.new.items feature) }
     ensures err { OnErr result (is_grouped ≡ false) }
 {
     if is_grouped {

@@ -11,7 +11,8 @@ pub first-under : {F : Type 0} → (n : ℕ) (rules : Rules F) → first (under 
 first-under n [] = refl
 first-under n (r ∷ rs) = refl
 
-pub first-map_faults : {F G : Type 0} → (report : F → G) (rules : Rules F) → first (map_faults report rules) ≡ option_map report (first rules)
+pub first-map_faults : {F G : Type 0} → (report : F → G) (rules : Rules F)
+    → first (map_faults report rules) ≡ option_map report (first rules)
 first-map_faults report [] = refl
 first-map_faults report (r ∷ rs) = refl
 

@@ -25,7 +25,8 @@ pub fn lines_name_files()
     ensures files { (name : List ℕ) → files_in (name ∷ codes "check" ∷ codes "b" ∷ codes "a" ∷ [])
         ≡ codes "b" ∷ codes "a" ∷ [] }
     ensures files_explained { (name : List ℕ)
-        → files_in (name ∷ codes "explain" ∷ codes "b" ∷ codes "a" ∷ []) ≡ codes "b" ∷ codes "a" ∷ [] }
+        → files_in (name ∷ codes "explain" ∷ codes "b" ∷ codes "a" ∷ [])
+        ≡ codes "b" ∷ codes "a" ∷ [] }
     ensures hyphens { (name : List ℕ)
         → files_in (name ∷ codes "check" ∷ codes "--" ∷ codes "-b" ∷ [])
         ≡ codes "-b" ∷ [] }

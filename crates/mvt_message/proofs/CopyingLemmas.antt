@@ -57,9 +57,6 @@ payloads_from_more body start number at after payloads longer payload (_, is) fr
       mapped_more (lent_field number) (drop start body) (drop at body) (drop after body) payloads payload is front,
     )
 
-pub fields_from_none : (body : List ℕ) (start number : ℕ) → start ≤ length body → AreFieldsFrom body start number 0 start
-fields_from_none body start number within = ([], (within, refl), refl)
-
 pub fields_from_more : (body : List ℕ) (start number count at after : ℕ) (payload : Bor (List ℕ)) → AreFieldsFrom body start number count at
     → drop at body ≡ short_field number (bytes payload.now) ++ drop after body → after ≤ length body
     → AreFieldsFrom body start number (count + 1) after
@@ -67,17 +64,6 @@ fields_from_more body start number count at after payload (payloads, from, count
   payloads ++ payload ∷ [],
   payloads_from_more body start number at after payloads (payloads ++ payload ∷ []) payload from front within refl,
   length-append payloads (payload ∷ []) ∙ ap (λ n. n + 1) counted,
-)
-
-pub texts_more : (payloads : List (Bor (List ℕ))) (n : ℕ) (texts longer : List (List ℕ)) (default : Bor (List ℕ)) → n < length payloads
-    → (texts ≡ lent (take n payloads)) × AllByRecursion IsUtf8 texts → IsUtf8 (get_or payloads n default).now
-    → longer ≡ texts ++ (get_or payloads n default).now ∷ []
-    → (longer ≡ lent (take (n + 1) payloads)) × AllByRecursion IsUtf8 longer
-texts_more payloads n texts longer default inside (are, all) here grown = (
-  grown ∙ ap (λ ts. ts ++ (get_or payloads n default).now ∷ []) are
-      ∙ sym (map-append (λ (b : Bor (List ℕ)). b.now) (take n payloads) (get_or payloads n default ∷ []))
-      ∙ ap lent (sym (take_more payloads n default inside)),
-  subst (AllByRecursion IsUtf8) (sym grown) (all_more IsUtf8 texts (get_or payloads n default).now all here),
 )
 
 abbrev value_bytes : Value → List ℕ
@@ -217,9 +203,6 @@ pub keys_are_from : (body : List ℕ) (start at : ℕ) (payloads : List (Bor (Li
     → ArePayloadsFrom body start KEYS payloads at → keys ≡ lent payloads → AllByRecursion IsUtf8 keys → AreKeysFrom body start keys at
 keys_are_from body start at payloads keys (within, is) are texts =
     (within, is ∙ ap (λ fs. spelled fs ++ drop at body) (keys_as_lent payloads keys (sym are)), texts)
-
-pub lent_count : (texts : List (Bor (List ℕ))) (keys : List (List ℕ)) → lent texts ≡ keys → length keys ≡ length texts
-lent_count texts keys are = ap length (sym are) ∙ length-mapped (λ (b : Bor (List ℕ)). b.now) texts
 
 -- where fields end
 fields_end : (body fields : List ℕ) (start at : ℕ) → drop start body ≡ fields ++ drop at body → start ≤ length body → at ≤ length body

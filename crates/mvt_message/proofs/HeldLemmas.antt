@@ -73,14 +73,16 @@ payloads_skipped done x other =
     (filter-append (λ (y : Entry). y.number == FEATURES) done (x ∷ [])
     ∙ ap (λ b. only FEATURES done ++ (if b then x ∷ [] else [])) (ne_eqb x.number FEATURES other) ∙ append-nil (only FEATURES done))
 
-payloads_more : (done : List Entry) (x : Entry) → x.number ≡ FEATURES → payloads_in (done ++ x ∷ []) ≡ payloads_in done ++ bytes_of x.content ∷ []
+payloads_more : (done : List Entry) (x : Entry) → x.number ≡ FEATURES
+    → payloads_in (done ++ x ∷ []) ≡ payloads_in done ++ bytes_of x.content ∷ []
 payloads_more done x is =
     ap (map (λ (y : Entry). bytes_of y.content))
     (filter-append (λ (y : Entry). y.number == FEATURES) done (x ∷ [])
     ∙ ap (λ b. only FEATURES done ++ (if b then x ∷ [] else [])) (eq-eqb x.number FEATURES is))
     ∙ map-append (λ (y : Entry). bytes_of y.content) (only FEATURES done) (x ∷ [])
 
-module _ {Has : List (List ℕ) → List Feature → Type 0} {payload_at : ℕ} {keys : List (List ℕ)} {values : List Value} {done : List Entry} {count : ℕ}
+module _ {Has : List (List ℕ) → List Feature
+    → Type 0} {payload_at : ℕ} {keys : List (List ℕ)} {values : List Value} {done : List Entry} {count : ℕ}
     (x : Entry) (so_far : AreFeaturesHeld Has payload_at keys values done count) where
   pub feature_skipped : x.number ≢ FEATURES → AreFeaturesHeld Has payload_at keys values (done ++ x ∷ []) count
   feature_skipped other = record {
@@ -125,7 +127,8 @@ module _ {Has : List (List ℕ) → List Feature → Type 0} {payload_at : ℕ} 
       }
 
 -- when all are counted, the fields to come hold none
-pub features_end : {Has : List (List ℕ) → List Feature → Type 0} {payload_at : ℕ} {keys : List (List ℕ)} {values : List Value} {payload : List ℕ}
+pub features_end : {Has : List (List ℕ) → List Feature
+    → Type 0} {payload_at : ℕ} {keys : List (List ℕ)} {values : List Value} {payload : List ℕ}
     {to_come : Parts}
     {done : List Entry} {count features : ℕ} → Walk payload to_come done → AreFeaturesHeld Has payload_at keys values done count
     → count ≡ features

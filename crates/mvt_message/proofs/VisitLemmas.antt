@@ -12,7 +12,8 @@ use Rattle.mvt_message.specs.Visiting.{HasLayer, IsVisited, OfFeatures}
 module _ {V : Type 0} (HasGiven : V → Type 0) (HasFeatures : OfFeatures V) (payload : List ℕ) (visitor : V) (reported : Visited)
     (P : AnItem → Type 0) where
   -- of a layer
-  pub layer_visited : ((number : ℕ) (content : List ℕ) → IsVisited HasGiven HasFeatures payload visitor reported (Foreign number content) → ⊥)
+  pub layer_visited : ((number : ℕ) (content : List ℕ)
+      → IsVisited HasGiven HasFeatures payload visitor reported (Foreign number content) → ⊥)
       → (item : AnItem) → IsVisited HasGiven HasFeatures payload visitor reported item → P item
       → (layer : ALayer) × HasLayer HasFeatures (split payload).fields visitor reported layer × P (Layer layer)
   layer_visited other (Layer layer) is p = (layer, is, p)

@@ -179,7 +179,8 @@ impl<V: RewriteVisitor> LayerVisitor for LayerRewriter<V> {
     ghost has_values = { λ items r values. HasGathered r.writer values
         × V.has_features items r.visitor [] [] };
 
-    ghost has_features = { λ items keys values r _ features. HasWritten keys values r.writer features
+    ghost has_features = { λ items keys values r _ features.
+        HasWritten keys values r.writer features
         × V.has_features items r.visitor features r.writer.features.items };
 
     fn visit_value(

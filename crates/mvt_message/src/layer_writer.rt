@@ -150,8 +150,8 @@ impl LayerWriter {
         Ok(())
     }
 
-    /// Adds the feature that has this id, these tags and the geometry that these integers draw. From
-    /// where the features alone are more bytes than the limit, it is left out.
+    /// Adds the feature that has this id, these tags and the geometry that these integers draw.
+    /// From where the features alone are more bytes than the limit, it is left out.
     ///
     /// # Errors
     ///

@@ -106,7 +106,8 @@ pub trait LayerVisitor: Drop {
         ensures feature { (given : Given) (held : List Value) (payloads : List (List ℕ))
             (features : List AFeature)
             → length held ≡ values
-            → has_features given keys.old held self.old payloads features → OnOk result ((feature : AFeature)
+            → has_features given keys.old held self.old payloads features
+            → OnOk result ((feature : AFeature)
             × IsFeatureOf payload.now keys.old held feature
             × has_features given keys.old held self.new
             (payloads ++ payload.now ∷ []) (features ++ feature ∷ [])) }
@@ -147,7 +148,8 @@ pub fn visit_layer<'a, V: LayerVisitor>(
     ensures item { (given : V.Given) → V.has_values given visitor.old []
         → V.has_given given visitor.old
         → IfOk result (λ visited. (item : Item) × IsItem payload.now item × ValidItem item
-        × IsVisited (V.has_given given) (V.has_features given) payload.now visitor.new visited item) }
+        × IsVisited (V.has_given given) (V.has_features given) payload.now visitor.new visited
+        item) }
     ensures fault { IfErr result (λ error. Reports (fault_of error)
         (item_fault payload.now payload_at tag_at)) }
 {
@@ -188,7 +190,8 @@ pub fn visit_version_2<'a, V: LayerVisitor>(
     ensures item { (given : V.Given) → V.has_values given visitor.old []
         → V.has_given given visitor.old
         → IfOk result (λ visited. (item : Item) × IsItem payload.now item × ValidItem item
-        × IsVisited (V.has_given given) (V.has_features given) payload.now visitor.new visited item) }
+        × IsVisited (V.has_given given) (V.has_features given) payload.now visitor.new visited
+        item) }
     ensures fault { IfErr result (λ error. Reports (fault_of error)
         (item_fault payload.now payload_at tag_at)) }
 {

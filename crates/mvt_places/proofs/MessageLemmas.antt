@@ -129,7 +129,3 @@ hold_start form k all test to_come is place = record {
   same = ap (find test) (formed_is form k (split all).fields) ∙ ap (λ (p : Parts). find test (filter (is_of form k) p.fields)) (sym is);
   within = omega arith;
 }
-
-pub hold_ends : (form : Form) (k : ℕ) (all : List ℕ) (test : Entry → Bool) (old : Parts) → Holding form k all test old → old.fields ≡ []
-    → None ≡ find test (formed form k (split all).fields)
-hold_ends form k all test old holding none = sym (holding.same ∙ ap (λ xs. find test (filter (is_of form k) xs)) none)

@@ -35,10 +35,6 @@ pub mapped_some : {X Y : Type 0} → (P : Y → Type 0) (f : X → Y) (o : Optio
 mapped_some P f None h = tt
 mapped_some P f (Some x) h = h
 
-pub weaker_some : {X : Type 0} → (P Q : X → Type 0) (o : Option X) → ((x : X) → P x → Q x) → IfSome o P → IfSome o Q
-weaker_some P Q None f h = tt
-weaker_some P Q (Some x) f h = f x h
-
 pub flat_map_all : {X Y : Type 0} → (P : X → Type 0) (Q : Y → Type 0) (f : X → List Y) → ((x : X) → P x → AllByRecursion Q (f x))
     → (xs : List X) → AllByRecursion P xs → AllByRecursion Q (flat_map f xs)
 flat_map_all P Q f each [] h = tt

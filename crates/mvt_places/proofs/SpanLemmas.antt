@@ -81,15 +81,6 @@ pub record Joining (m : Message) (k index : ℕ) (seen : Seen) (to_come : Parts)
   pub within : to_come.rest_at ≤ length m.payload
   pub below : SeesBelow (m.body + length m.payload) seen
 
-pub join_start : (m : Message) (k index : ℕ) (seen : Seen) (to_come : Parts) → seen ≡ start_of index → to_come ≡ split m.payload
-    → to_come.rest_at + length to_come.rest ≡ length m.payload → Joining m k index seen to_come
-join_start m k index seen to_come starts is place = record {
-  same = ap (λ s. fold with_span s (joined k m)) (sym starts)
-      ∙ ap (λ (p : Parts). fold with_span seen (spans_of m (only k p.fields))) (sym is);
-  within = omega arith;
-  below = subst (SeesBelow (m.body + length m.payload)) (sym starts) (tt, tt);
-}
-
 last_seen : (spans : List Span) (seen : Seen) → (fold with_span seen spans).last ≡ last_or seen.last spans
 last_seen [] seen = refl
 last_seen (s ∷ ss) seen = last_seen ss (with_span seen s)

@@ -32,11 +32,6 @@ take_both : (xs : List ℕ) (m n : ℕ) → take (m + n) xs ≡ take m xs ++ tak
 take_both xs m n =
     sym (take-append-drop m (take (m + n) xs)) ∙ ap₂ (λ ys zs. ys ++ zs) (take-take m (m + n) xs (omega arith)) (drop-take m n xs)
 
-pub runs_nowhere : (text : List ℕ) (from : ℕ) → from ≤ length text → RunsTo text from from
-runs_nowhere text from within =
-    let none : 0 ≡ from - from = omega arith in
-    (omega arith, within, ap (λ n. take n (drop from text) ++ escape (drop from text)) none)
-
 pub runs_block : (text : List ℕ) (from end n : ℕ) → RunsTo text from end → end + n ≤ length text
     → list_all is_clean (take n (drop end text)) ≡ true → RunsTo text from (end + n)
 runs_block text from end n so_far within clean =
@@ -77,10 +72,6 @@ mark_comes start t1 t2 text at come within is =
     ap (λ t. t ++ escape (drop (at + 1) text)) is
     ∙ append_assoc t1 (escape_byte (get_or text at 0)) (escape (drop (at + 1) text))
     ∙ ap (λ t. t1 ++ t) (sym (at_drop_more escape text at 0 within)) ∙ come
-
-pub all_have_come : (start now text : List ℕ) (at : ℕ) → HasCome start now text at → length text ≤ at → now ≡ start ++ escape text
-all_have_come start now text at come end =
-    sym (append-nil now) ∙ ap (λ xs. now ++ escape xs) (sym (drop_all at text end)) ∙ come
 
 pub control_text : (b : ℕ) → b < 32 → escape_letter b ≡ 0
     → escape_byte b ≡ codes "\\u00" ++ (digit_char (b / 16) ∷ digit_char (b % 16) ∷ [])

@@ -86,17 +86,6 @@ payload_only b (bytes d) all (size, spells, is) len =
     is ∙ ap (λ s. s ++ d) (short_only size (length d) (front_bytes size d (subst AllBytes is all)) spells (omega arith))
 payload_only b (fixed32 n) all is len = little_once 4 b all is.0 ∙ ap (little_bytes 4) (sym is.1)
 
-pub field_shortest : (b : List ℕ) (number : ℕ) (c : Content) → IsField b number c → length (short_field number c) ≤ length b
-field_shortest b number c f =
-    omega (
-      arith,
-      ap length f.joined,
-      length-append f.tag f.payload,
-      length-short_field number c,
-      short_shortest f.tag _ f.tagged,
-      payload_shortest f.payload c f.carries,
-    )
-
 pub field_only : (b : List ℕ) (number : ℕ) (c : Content) → AllBytes b → IsField b number c
     → length b ≡ length (short_field number c) → b ≡ short_field number c
 unfolding short_field
@@ -120,7 +109,8 @@ stands_short source at after number c all some within f len =
     let back : drop (after - at) (drop at source) ≡ drop after source = behind_slice source at after some in
     let parts : front ++ drop after source ≡ drop at source =
     ap (λ r. front ++ r) (sym back) ∙ take-append-drop (after - at) (drop at source) in
-    let are : AllBytes (drop at source) = back_bytes (take at source) (drop at source) (subst AllBytes (sym (take-append-drop at source)) all) in
+    let are : AllBytes (drop at source) = back_bytes (take at source) (drop at source)
+    (subst AllBytes (sym (take-append-drop at source)) all) in
     sym parts
     ∙ ap (λ x. x ++ drop after source)
     (field_only front number c (front_bytes front (drop after source) (subst AllBytes (sym parts) are)) f (size ∙ len))

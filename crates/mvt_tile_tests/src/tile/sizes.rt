@@ -8,8 +8,8 @@ use mvt_geometry::{Geometry, Point, Polygon};
 use mvt_io::MemorySink;
 use mvt_message::{Feature, Item, Layer};
 use mvt_tile::{
-    NamedLayers, Tile, encode, extract, extract_bytes, extract_tile, is_valid, notes, read_tile,
-    write_tile,
+    NamedLayers, Tile, decode, encode, extract, extract_bytes, extract_tile, is_valid, notes,
+    read_tile, write_tile,
 };
 use std::process::Abort;
 
@@ -137,6 +137,31 @@ fn takes_any_number_of_attributes(rt: HostRuntime) {
     for count in COUNTS {
         let features = vec![in rt.alloc(); keyed(&rt, count), keyed(&rt, 2)];
         expect_answers(&rt, one_layer(&rt, features.expect(&rt, "features")));
+    }
+}
+
+// A tile is made, read again and written to a writer.
+fn expect_round_trip(rt: &(impl Abort + AllocGlobal), tile: &Tile) {
+    let bytes = encode(rt.alloc(), tile).expect(rt, "bytes");
+    let read = decode(rt.alloc(), &bytes).expect(rt, "a tile");
+    expect!(rt; read == *tile);
+    drop(read);
+    let made = MemorySink::new(rt.alloc(), bytes.len(), bytes.len(), u64::MAX, false);
+    let mut writer = made.expect(rt, "a writer");
+    expect_eq!(rt; write_tile(rt.alloc(), tile, &mut writer), Ok(()));
+    expect!(rt; writer.taken() == bytes.as_slice());
+    drop(writer);
+    drop(bytes);
+}
+
+#[test]
+fn takes_more_attributes_than_two_bytes_count(rt: HostRuntime) {
+    for count in [65_536, 65_537, 70_000] {
+        let features = vec![in rt.alloc(); keyed(&rt, count), keyed(&rt, 2)];
+        let tile = one_layer(&rt, features.expect(&rt, "features"));
+        expect!(rt; is_valid(&tile));
+        expect_round_trip(&rt, &tile);
+        drop(tile);
     }
 }
 

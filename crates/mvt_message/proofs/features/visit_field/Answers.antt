@@ -19,4 +19,5 @@ returns-in-Ok-clause-ok g c = λ items held done are so_far.
 pub returns-in-Err-clause-err : goal.returns-in-Err-clause-err
 returns-in-Err-clause-err g c = λ items held done more are so_far.
     feature_stops (entry_of c.args.field.now) so_far more _ _ c.if-field-ne-FEATURES.false refl
-    (c.in_feature.ensures _ (rw c.bytes_of-payload.ensures at (c.in-Err.ensures.err items held (payloads_in done) so_far.features are so_far.has)))
+    (c.in_feature.ensures _ (rw c.bytes_of-payload.ensures at
+    (c.in-Err.ensures.err items held (payloads_in done) so_far.features are so_far.has)))

@@ -9,5 +9,6 @@ invariant-loop-field g l =
     (done : List Entry) × Walk l.payload l.field-iterator.to_come done
     × ((given : g.V.LayerVisitor.Given) → g.V.LayerVisitor.has_values given l.initial.visitor []
     → IsLayerFields (g.V.LayerVisitor.has_values given l.visitor) l.payload_at done l.front)
-    × ((given : g.V.LayerVisitor.Given) → g.V.LayerVisitor.has_values given l.initial.visitor [] → g.V.LayerVisitor.has_given given l.initial.visitor
+    × ((given : g.V.LayerVisitor.Given) → g.V.LayerVisitor.has_values given l.initial.visitor []
+    → g.V.LayerVisitor.has_given given l.initial.visitor
     → g.V.LayerVisitor.has_given given l.visitor)

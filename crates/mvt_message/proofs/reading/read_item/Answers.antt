@@ -30,7 +30,8 @@ returns-in_ok-from_str-in-Ok-Layer-clause-valid c =
     let (item, is, valid, visited) = c.in-Ok-Layer.ensures.item tt (c.new-kept.ensures.values, c.new-kept.ensures.features) tt in
     let reported = rw c.in-Ok-Layer.field-0-is at visited in
     let (layer, has, p) =
-    layer_visited HasGiven HasFeatures c.args.payload.now c.visit_version_2.new.visitor (Layer c.in-Ok-Layer.name c.in-Ok-Layer.extent) ValidItem
+    layer_visited HasGiven HasFeatures c.args.payload.now c.visit_version_2.new.visitor (Layer c.in-Ok-Layer.name c.in-Ok-Layer.extent)
+    ValidItem
     (λ number content none. none) item reported valid in
     put_together ValidItem layer _ _ _ (c.in_ok-from_str-in-Ok-Layer.ensures.same ∙ has.0) has.1 (c.new.ensures ∙ has.2.1) p
 
@@ -39,7 +40,8 @@ returns-in_ok-from_slice-in-Ok-Foreign-clause-item c =
     let (item, is, valid, visited) = c.in-Ok-Foreign.ensures.item tt (c.new-kept.ensures.values, c.new-kept.ensures.features) tt in
     let reported = rw c.in-Ok-Foreign.field-0-is at visited in
     let (number, content, has, p) =
-    foreign_visited HasGiven HasFeatures c.args.payload.now c.visit_version_2.new.visitor (Foreign c.in-Ok-Foreign.version) (IsItem c.args.payload.now)
+    foreign_visited HasGiven HasFeatures c.args.payload.now c.visit_version_2.new.visitor (Foreign c.in-Ok-Foreign.version)
+    (IsItem c.args.payload.now)
     (λ layer none. none) item reported is in
     foreign_made (IsItem c.args.payload.now) _ _ (foreign_bytes c.args.payload.now number content p) has.0
     (c.new-in-Ok-Foreign.ensures ∙ c.in_ok-from_slice-in-Ok-Foreign.ensures.items) p

@@ -13,5 +13,7 @@ returns-in-Len-clause-field c =
     let field : IsField (slice_range c.args.source.now c.args.at c.in-Ok-Some.after) c.args.number (bytes d) =
     subst (λ n. IsField (slice_range c.args.source.now c.args.at c.in-Ok-Some.after) n (bytes d)) c.if-field-number.true
     (subst (IsField (slice_range c.args.source.now c.args.at c.in-Ok-Some.after) c.in-Ok-Some.field.number) content next.2.field) in
-    let len : c.in-Ok-Some.after - c.args.at ≡ length (short_field c.args.number (bytes d)) = c.if-after-at.true ∙ c.field_len.ensures d refl in
-    stands_short c.args.source.now c.args.at c.in-Ok-Some.after c.args.number (bytes d) (λ k. omega (arith, c.type_inv.source k)) next.0 next.1 field len
+    let len : c.in-Ok-Some.after - c.args.at ≡ length (short_field c.args.number (bytes d)) = c.if-after-at.true ∙ c.field_len.ensures d
+    refl in
+    stands_short c.args.source.now c.args.at c.in-Ok-Some.after c.args.number (bytes d) (λ k. omega (arith, c.type_inv.source k)) next.0
+    next.1 field len

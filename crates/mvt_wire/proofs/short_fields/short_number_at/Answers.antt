@@ -18,5 +18,14 @@ returns-in-Varint-clause-field c =
     let len : c.in-Ok-Some.after - c.args.at ≡ length (short_field c.args.number (varint n)) =
     let tag : length (short (8 * c.from.result)) ≡ length (short (8 * c.args.number + 0)) =
     ap (λ k. length (short k)) (let from = c.from.ensures in omega arith) in
-    omega (arith, tag, c.if-after-at.true, c.varint_len.ensures.len, c.varint_len-then-field-number.ensures.len, length-short_field c.args.number (varint n)) in
-    stands_short c.args.source.now c.args.at c.in-Ok-Some.after c.args.number (varint n) (λ k. omega (arith, c.type_inv.source k)) next.0 next.1 field len
+    omega (
+      arith,
+      tag,
+      c.if-after-at.true,
+      c.varint_len.ensures.len,
+      c.varint_len-then-field-number.ensures.len,
+      length-short_field
+          c.args.number (varint n),
+    ) in
+    stands_short c.args.source.now c.args.at c.in-Ok-Some.after c.args.number (varint n) (λ k. omega (arith, c.type_inv.source k))
+    next.0 next.1 field len
