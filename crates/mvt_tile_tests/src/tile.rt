@@ -1,8 +1,10 @@
-//! Known tiles and faults, pieces, devices, refused growths.
+//! Known tiles and faults, made tiles, pieces, devices, refused growths.
 mod devices;
 mod faults;
+mod making;
 mod refused;
 mod refused_rows;
+mod rewriting;
 mod rows;
 mod sizes;
 mod streams;
