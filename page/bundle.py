@@ -1,5 +1,5 @@
 #!/usr/bin/env python3
-"""Puts the page into one file: its style, its scripts, the rules of docs/REFUSALS.md and the
+"""Puts the page into one file: its style, its scripts, the rules of docs/FORMAT.md and the
 notes of docs/PROGRAM.md, and two example tiles.
 bundle.py [PAGE.html], which is the package's own where none is named"""
 import base64
@@ -45,9 +45,9 @@ def script(root):
 
 def rules():
     """The table of refusals: number, name, the rule that is broken, the place."""
-    rows = re.findall(r"^\| (\d+) \| (\w+) \| (.*) \| (.*) \|$", (top / "docs/REFUSALS.md").read_text(), re.M)
+    rows = re.findall(r"^\| (\d+) \| (\w+) \| (.*) \| (.*) \|$", (top / "docs/FORMAT.md").read_text(), re.M)
     if len(rows) < 25:
-        sys.exit("bundle.py: docs/REFUSALS.md has no table of the rules")
+        sys.exit("bundle.py: docs/FORMAT.md has no table of the rules")
     return {number: {"name": name, "rule": rule, "place": place} for number, name, rule, place in rows}
 
 

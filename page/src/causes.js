@@ -1,4 +1,4 @@
-// The numbers of the causes, by their names: those of docs/REFUSALS.md.
+// The numbers of the causes, by their names: those of docs/FORMAT.md.
 
 export const CAUSE = {
   Truncated: 1, VarintRange: 2, FieldNumber: 3, WireType: 4, WrongType: 5, NumberRange: 6, NotUtf8: 7, NoVersion: 8,

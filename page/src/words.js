@@ -1,4 +1,4 @@
-// Faults in few words, and their places. The causes and their numbers are those of docs/REFUSALS.md; the sentences come from
+// Faults in few words, and their places. The causes and their numbers are those of docs/FORMAT.md; the sentences come from
 // the library.
 import { foreign } from './foreign.js';
 import { counted, grouped, offsetText } from './text.js';

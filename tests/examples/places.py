@@ -4,7 +4,7 @@
 Has the program explain each tile (`PROGRAM explain`), inputs that are no tiles, and 1,000 tiles whose tags and geometry
 are spelled in pieces. Of those that it refuses, the fault is taken from its line, and this script looks for the place by
 itself, in a way that depends on the cause; it shares no code with the program. The rows of bytes are read back, and
-compared with the tile, and the sentences with docs/REFUSALS.md. tests/library/mutate.py makes changed tiles. The last line
+compared with the tile, and the sentences with docs/FORMAT.md. tests/library/mutate.py makes changed tiles. The last line
 is 'places: N passed, M failed'. tests/library/test_places.py and tests/page/test_places.py ask the library and the page for
 the same places."""
 
@@ -193,9 +193,9 @@ def looks_like(tile):
 
 
 def documented():
-    """The sentence of each cause in docs/REFUSALS.md, by its number: that of the worked tiles which break the rule."""
+    """The sentence of each cause in docs/FORMAT.md, by its number: that of the worked tiles which break the rule."""
     found = {}
-    text = (TOP / "docs" / "REFUSALS.md").read_text()
+    text = (TOP / "docs" / "FORMAT.md").read_text()
     for cause, block in re.findall(r"^    \$ .*broken/(\d+)-(?!WireType-gzip).*\n((?:    .*\n)+)", text, re.MULTILINE):
         lines = [line.strip() for line in block.splitlines()]
         sentence = next(line for line in lines if not re.match("layer |bytes? |before byte ", line))

@@ -1,7 +1,7 @@
 """Where faults stand, as the library says, and as tests/examples/places.py finds by itself: test_places.py TILE..
 
 Of the tiles, of inputs that are no tiles, and of tiles in pieces, those that are refused are compared. What is said of them
-is docs/REFUSALS.md's."""
+is docs/FORMAT.md's."""
 
 import sys
 import unittest
@@ -35,7 +35,7 @@ class Places(unittest.TestCase):
         self.assertGreater(refused, len(TILES) / 2)
 
     def test_each_cause_has_its_sentence(self):
-        causes = {int(cause) for cause in places.re.findall(r"^\| (\d+) \|", (places.TOP / "docs/REFUSALS.md").read_text(), places.re.M)}
+        causes = {int(cause) for cause in places.re.findall(r"^\| (\d+) \|", (places.TOP / "docs/FORMAT.md").read_text(), places.re.M)}
         self.assertEqual(set(places.documented()), causes)
 
 

@@ -52,7 +52,7 @@ function fits(bytes, fault, told) {
   return isSame && isInside && isThere && !/undefined|null|NaN/.test(said);
 }
 
-const rules = readFileSync(`${top}docs/REFUSALS.md`, 'utf8').matchAll(/^\| (\d+) \| (\w+) \|/gm);
+const rules = readFileSync(`${top}docs/FORMAT.md`, 'utf8').matchAll(/^\| (\d+) \| (\w+) \|/gm);
 for (const [, cause, name] of rules) {
   await counts.check(`${name} has few words`, () => BRIEF[cause]?.length < 50);
   await is(`${name} has its number`, CAUSE[name], Number(cause));

@@ -1,5 +1,5 @@
 #!/usr/bin/env python3
-"""What `mvt explain` says of each broken tile, at the end of docs/REFUSALS.md: explained.py PROGRAM [--write]
+"""What `mvt explain` says of each broken tile, at the end of docs/FORMAT.md: explained.py PROGRAM [--write]
 
 Has the program say it, and compares it with what stands there, or writes it there."""
 
@@ -9,7 +9,7 @@ import sys
 from pathlib import Path
 
 HERE = Path(__file__).resolve().parent
-DOCUMENT = HERE.parents[2] / "docs" / "REFUSALS.md"
+DOCUMENT = HERE.parents[2] / "docs" / "FORMAT.md"
 HEAD = "## What `mvt explain` says\n\nOf each tile of `examples/tiles/broken`, beside the line of the fault:\n"
 
 

@@ -10,7 +10,7 @@ from common import TOP, example_tiles
 from mvt.audit.report import maps, pictures, shapes, words
 
 def causes():
-    return [int(cause) for cause in re.findall(r"^\| (\d+) \| \w+ \|", Path(TOP, "docs", "REFUSALS.md").read_text(), re.MULTILINE)]
+    return [int(cause) for cause in re.findall(r"^\| (\d+) \| \w+ \|", Path(TOP, "docs", "FORMAT.md").read_text(), re.MULTILINE)]
 
 
 class Words(unittest.TestCase):
