@@ -1,6 +1,7 @@
 // Measures reading and writing over folders of real tiles, beside protozero and the classes that
-// protoc makes, in one process. Tiles that mvt_tile refuses are left out for all. What protozero
-// writes is first checked to be the canonical bytes of a tile.
+// protoc makes, in one process. Tiles that mvt_tile refuses are left out for all. It is checked first
+// that each tile is rewritten as the bytes that it is written as once it was read, and that what
+// protozero writes is the canonical bytes of a tile.
 //
 //   bench/real.sh FOLDER
 //
@@ -21,6 +22,7 @@ extern "C" bool mvt_judge(const unsigned char* bytes, std::size_t len);
 extern "C" std::uint64_t mvt_write(
     const unsigned char* bytes, std::size_t len, std::uint32_t times);
 extern "C" bool mvt_is_canonical(const unsigned char* bytes, std::size_t len);
+extern "C" bool mvt_rewrites_as_written(const unsigned char* bytes, std::size_t len);
 
 using folders::bytes_of;
 
@@ -62,9 +64,17 @@ static const std::vector<folders::Work> works{
     [](const std::string& t) { return written(t, 0); },
 };
 
+// Whether a tile is accepted.
+static bool accepted(const std::string& tile) {
+    if (!mvt_rewrites_as_written(bytes_of(tile), tile.size())) {
+        std::printf("a tile of %zu bytes is rewritten otherwise than it is written\n", tile.size());
+        std::exit(1);
+    }
+    return mvt_decode(bytes_of(tile), tile.size(), false) != 0;
+}
+
 static void row(const folders::fs::path& folder) {
-    const auto [tiles, refused] = folders::tiles_in(
-        folder, [](const std::string& t) { return mvt_decode(bytes_of(t), t.size(), false) != 0; });
+    const auto [tiles, refused] = folders::tiles_in(folder, accepted);
     if (tiles.empty()) return;
     for (const auto& tile : tiles) {
         const auto bytes = writing::bytes_of(owned::tile_of(tile));

@@ -3,7 +3,9 @@
 use mvt_base::LIMIT;
 use mvt_io::{Host, MemorySink};
 use mvt_message::{Item, read_item};
-use mvt_tile::{DecodeError, Tile, TileDecoder, decode, feature_count, judge, write_tile};
+use mvt_tile::{
+    DecodeError, Tile, TileDecoder, decode, encode, feature_count, judge, rewrite, write_tile,
+};
 use std::alloc::Global;
 use std::{io, mem};
 
@@ -76,6 +78,20 @@ pub extern "C" fn mvt_is_canonical(alloc: Global, bytes: &[u8]) -> bool {
         return false;
     };
     write_tile(alloc, &tile, &mut sink).is_ok() && sink.taken() == bytes
+}
+
+/// Whether a tile is rewritten as the very bytes that it is written as once it was read, or is
+/// refused both times for the same fault.
+#[unsafe(no_mangle)]
+pub extern "C" fn mvt_rewrites_as_written(alloc: Global, bytes: &[u8]) -> bool {
+    let made = rewrite(alloc, bytes);
+    match decode(alloc, bytes) {
+        Ok(tile) => match (made, encode(alloc, &tile)) {
+            (Ok(Some(found)), Ok(written)) => found.as_slice() == written.as_slice(),
+            _ => false,
+        },
+        Err(error) => made.err() == Some(error),
+    }
 }
 
 /// Reads an item, and counts its features and 1. 0 for a longer one than the limit too.
