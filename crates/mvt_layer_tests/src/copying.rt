@@ -20,6 +20,20 @@ pub(crate) const MANY_VALUES: [u8; 157] = [
     0x38, 0x00, 0x22, 0x04, 0x0A, 0x02, 0x79, 0x79, 0x28, 0x80, 0x20, 0x78, 0x02,
 ];
 
+// The first of them, with version, name and extent in front, as vt-pbf writes layers.
+const EXTENT_IN_FRONT: [u8; 157] = [
+    0x78, 0x02, 0x0A, 0x05, 0x72, 0x6F, 0x61, 0x64, 0x73, 0x28, 0x80, 0x20, 0x12, 0x0F, 0x08, 0x07,
+    0x12, 0x04, 0x00, 0x00, 0x01, 0x01, 0x18, 0x01, 0x22, 0x03, 0x09, 0x32, 0x22, 0x12, 0x11, 0x12,
+    0x04, 0x00, 0x02, 0x01, 0x03, 0x18, 0x02, 0x22, 0x07, 0x09, 0x00, 0x00, 0x0A, 0x04, 0xAC, 0x02,
+    0x12, 0x16, 0x08, 0xAC, 0x02, 0x12, 0x04, 0x00, 0x04, 0x01, 0x05, 0x18, 0x03, 0x22, 0x09, 0x09,
+    0x00, 0x00, 0x12, 0x04, 0x00, 0x03, 0x04, 0x0F, 0x12, 0x0D, 0x12, 0x04, 0x00, 0x06, 0x01, 0x07,
+    0x18, 0x01, 0x22, 0x03, 0x09, 0x32, 0x22, 0x12, 0x0B, 0x12, 0x02, 0x01, 0x08, 0x18, 0x01, 0x22,
+    0x03, 0x09, 0x01, 0x01, 0x1A, 0x01, 0x61, 0x1A, 0x02, 0x62, 0x63, 0x22, 0x03, 0x0A, 0x01, 0x78,
+    0x22, 0x05, 0x15, 0x00, 0x00, 0x80, 0x3F, 0x22, 0x09, 0x19, 0x00, 0x00, 0x00, 0x00, 0x00, 0x00,
+    0x00, 0x40, 0x22, 0x02, 0x20, 0x05, 0x22, 0x03, 0x28, 0xC8, 0x01, 0x22, 0x02, 0x30, 0x09, 0x22,
+    0x02, 0x38, 0x01, 0x22, 0x02, 0x38, 0x00, 0x22, 0x04, 0x0A, 0x02, 0x79, 0x79,
+];
+
 // The first of them, whose last feature has an id of 0 that takes two bytes.
 const LATE_ID: [u8; 160] = [
     0x0A, 0x05, 0x72, 0x6F, 0x61, 0x64, 0x73, 0x12, 0x0F, 0x08, 0x07, 0x12, 0x04, 0x00, 0x00, 0x01,
@@ -133,6 +147,58 @@ fn copies_with_the_version_elsewhere(rt: HostRuntime) {
     expect_same(&rt, b"\x78\x02\x0A\x01a\x28\x80\x20\x78\x02");
 }
 
+// Version, name and extent in front, each in front or behind, and in other orders.
+#[test]
+fn copies_whatever_stands_around(rt: HostRuntime) {
+    expect_same(&rt, &EXTENT_IN_FRONT);
+    expect_same(&rt, b"\x0A\x01a\x28\x80\x20\x78\x02");
+    expect_same(
+        &rt,
+        b"\x28\x80\x04\x78\x02\x0A\x01b\x12\x07\x18\x01\x22\x03\x09\x32\x22",
+    );
+    expect_same(
+        &rt,
+        b"\x0A\x01b\x78\x02\x12\x07\x18\x01\x22\x03\x09\x32\x22\x28\x80\x04",
+    );
+    expect_same(
+        &rt,
+        b"\x28\x80\x04\x0A\x01b\x12\x07\x18\x01\x22\x03\x09\x32\x22\x78\x02",
+    );
+    expect_same(
+        &rt,
+        b"\x0A\x01b\x12\x07\x18\x01\x22\x03\x09\x32\x22\x78\x02\x28\x80\x04",
+    );
+    expect_same(
+        &rt,
+        b"\x28\x80\x04\x12\x07\x18\x01\x22\x03\x09\x32\x22\x0A\x01b\x78\x02",
+    );
+}
+
+// A name, an extent and a version in front and another behind, which counts, or both in front.
+#[test]
+fn copies_none_of_what_stands_twice(rt: HostRuntime) {
+    expect_same(
+        &rt,
+        b"\x78\x02\x0A\x01b\x28\x80\x04\x12\x07\x18\x01\x22\x03\x09\x32\x22\x28\x80\x20",
+    );
+    expect_same(
+        &rt,
+        b"\x78\x02\x0A\x01b\x28\x80\x04\x12\x07\x18\x01\x22\x03\x09\x32\x22\x0A\x01c",
+    );
+    expect_same(
+        &rt,
+        b"\x78\x02\x0A\x01b\x28\x80\x04\x12\x07\x18\x01\x22\x03\x09\x32\x22\x78\x02",
+    );
+    expect_same(
+        &rt,
+        b"\x78\x02\x0A\x01b\x0A\x01c\x28\x80\x04\x12\x07\x18\x01\x22\x03\x09\x32\x22",
+    );
+    expect_same(
+        &rt,
+        b"\x78\x02\x28\x80\x04\x28\x80\x20\x0A\x01b\x12\x07\x18\x01\x22\x03\x09\x32\x22",
+    );
+}
+
 // Keys and values behind those that the features use: both, of one kind alone, and all of them,
 // where the features have no tags and where there are none.
 #[test]
@@ -235,6 +301,11 @@ fn expect_rewritten(rt: &(impl Abort + AllocGlobal), payload: &[u8]) {
 #[test]
 fn asks_least_to_copy(rt: HostRuntime) {
     expect_rewritten(&rt, &MANY_VALUES);
+}
+
+#[test]
+fn asks_least_with_the_extent_in_front(rt: HostRuntime) {
+    expect_rewritten(&rt, &EXTENT_IN_FRONT);
 }
 
 #[test]

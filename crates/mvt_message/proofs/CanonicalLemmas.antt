@@ -1,5 +1,5 @@
 -- The canonical payload of a valid item is that item.
-use Rattle.std.proofs.Common.{◌≡◌, ℕ, zero, suc, ◌+◌, ◌*◌, ◌^◌, ◌<◌, ◌≤◌, ◌==◌, Bool, true, false, List, [], ◌∷◌, ◌++◌, length, map, Some, None, refl, sym, ap, ap₂, ◌∙◌, subst, arith, append_assoc, append-nil, length-append, lit<, lit≤, if◌then◌else◌}
+use Rattle.std.proofs.Common.{◌≡◌, ℕ, zero, suc, ◌+◌, ◌*◌, ◌^◌, ◌<◌, ◌≤◌, ◌==◌, Bool, true, false, List, [], ◌∷◌, ◌++◌, length, map, Some, None, ◌⊎◌, inl, inr, refl, sym, ap, ap₂, ◌∙◌, subst, arith, append_assoc, append-nil, length-append, lit<, lit≤, if◌then◌else◌}
 use Rattle.std.specs.Prelude.{IsUtf8, Contains, unwrap_or, ⊤}
 use Rattle.std.specs.List.{AllByRecursion, last_or}
 use Rattle.std.specs.Option.{option_map}
@@ -15,7 +15,6 @@ use Rattle.mvt_attrs.specs.Pools.{key_pool, value_pool}
 use Rattle.mvt_attrs.specs.TagPlaces.{tags_in, IsIn}
 use Rattle.mvt_wire.specs.Field.{Content, varint, bytes, fixed64, fixed32, Entry}
 use Rattle.mvt_wire.specs.Spelling.{Plain, plain_of, short_field, spelled, IsFit, FitsContent}
-use Rattle.mvt_wire.specs.Split.{Whole}
 use Rattle.mvt_feature.specs.declared.feature.Feature.{Feature}
 use Rattle.mvt_feature.specs.Canonical.{plain, value_fields, feature_fields}
 use Rattle.mvt_feature.specs.Features.{IsFeatureOf, number_in, number_of}
@@ -32,16 +31,12 @@ use Rattle.mvt_message.specs.declared.item.Layer.{Layer as ALayer}
 use Rattle.mvt_message.specs.declared.item.Item.TheVariants.{Layer, Foreign}
 use Rattle.mvt_message.specs.LayerFields.{bytes_of, version_in, keys_in}
 use Rattle.mvt_message.specs.Items.{HoldsFeature, IsLayer, IsItem}
-use Rattle.mvt_message.specs.CanonicalItems.{attributes_of, keys_of, values_of, head_fields, extent_fields, fields_with, layer_fields, canonical_item}
-use Rattle.mvt_message.specs.Copying.{body_with}
+use Rattle.mvt_message.specs.CanonicalItems.{attributes_of, keys_of, values_of, head_fields, feature_field, key_field, value_field, extent_fields, fields_with, layer_fields, canonical_item}
+use Rattle.mvt_message.specs.Around.{contents_at, AreAlike}
+use Rattle.mvt_message.specs.Copying.{core_with}
 use Rattle.mvt_message.specs.ValidItems.{ValidLayer, AreOfVersion, ValidItem}
 
--- the contents of the fields of a number
-abbrev contents_at : ℕ → List Plain → List Content
-contents_at k [] = []
-contents_at k (p ∷ ps) = if p.number == k then p.content ∷ contents_at k ps else contents_at k ps
-
--- and of entries
+-- the contents of entries of a number
 abbrev contents_of : ℕ → List Entry → List Content
 contents_of k xs = map (λ (x : Entry). x.content) (only k xs)
 
@@ -55,7 +50,7 @@ only_contents k (x ∷ xs) = by_test (x.number == k) (only_contents k xs)
     by_test true h = ap (λ l. x.content ∷ l) h
     by_test false h = h
 
-contents-append : (k : ℕ) (ps qs : List Plain) → contents_at k (ps ++ qs) ≡ contents_at k ps ++ contents_at k qs
+pub contents-append : (k : ℕ) (ps qs : List Plain) → contents_at k (ps ++ qs) ≡ contents_at k ps ++ contents_at k qs
 contents-append k [] qs = refl
 contents-append k (p ∷ ps) qs = by_test (p.number == k) (contents-append k ps qs)
   where
@@ -95,12 +90,13 @@ abbrev tail_by : {Y : Type 0} → (Y → List ℕ) → List Y → List (List ℕ
 tail_by g ys keys values extent =
     all_of FEATURES g ys ++ (all_of KEYS same_bytes keys ++ (all_of VALUES value_bytes values ++ extent_fields extent))
 
--- and all but its version, and all
-abbrev pub rest_by : {Y : Type 0} → (Y → List ℕ) → List Y → List (List ℕ) → List Value → List ℕ → ℕ → List Plain
-rest_by g ys keys values name extent = plain NAME (bytes name) ∷ tail_by g ys keys values extent
+-- and all
+abbrev fields_by : {Y : Type 0} → (Y → List ℕ) → List Y → List (List ℕ) → List Value → List ℕ → ℕ → List Plain
+fields_by g ys keys values name extent = head_fields name ++ tail_by g ys keys values extent
 
-abbrev pub fields_by : {Y : Type 0} → (Y → List ℕ) → List Y → List (List ℕ) → List Value → List ℕ → ℕ → List Plain
-fields_by g ys keys values name extent = plain VERSION (varint 2) ∷ rest_by g ys keys values name extent
+-- the features, the keys and the values alone
+abbrev pub core_by : {Y : Type 0} → (Y → List ℕ) → List Y → List (List ℕ) → List Value → List Plain
+core_by g ys keys values = all_of FEATURES g ys ++ (all_of KEYS same_bytes keys ++ all_of VALUES value_bytes values)
 
 tail_contents : {Y : Type 0} → (k : ℕ) (g : Y → List ℕ) (ys : List Y) (keys : List (List ℕ)) (values : List Value) (extent : ℕ)
     (a b c : List Content)
@@ -168,38 +164,66 @@ record AreContents {Y : Type 0} (g : Y → List ℕ) (ys : List Y) (keys : List 
 abbrev pub HasContents : {Y : Type 0} → (Y → List ℕ) → List Y → List (List ℕ) → List Value → List ℕ → ℕ → List Entry → Type 0
 HasContents g ys keys values name extent xs = (k : ℕ) → contents_of k xs ≡ contents_at k (fields_by g ys keys values name extent)
 
-in_place : {Y : Type 0} → (g : Y → List ℕ) (ys : List Y) (keys : List (List ℕ)) (values : List Value) (name : List ℕ) (extent : ℕ)
-    (xs : List Entry)
-    → map plain_of xs ≡ fields_by g ys keys values name extent → HasContents g ys keys values name extent xs
-in_place g ys keys values name extent xs is k = only_contents k xs ∙ ap (contents_at k) is
+-- no other field stands among them
+core_none : {Y : Type 0} → (k : ℕ) (g : Y → List ℕ) (ys : List Y) (keys : List (List ℕ)) (values : List Value)
+    → (FEATURES == k) ≡ false → (KEYS == k) ≡ false → (VALUES == k) ≡ false → contents_at k (core_by g ys keys values) ≡ []
+core_none k g ys keys values two three four =
+    contents-append k (all_of FEATURES g ys) _
+    ∙ ap₂ (λ x y. x ++ y) (contents_other FEATURES k g ys two) (contents-append k (all_of KEYS same_bytes keys) _
+    ∙ ap₂ (λ x y. x ++ y) (contents_other KEYS k same_bytes keys three) (contents_other VALUES k value_bytes values four))
 
--- also where the version stands behind the others
-abbrev version_alone : List Plain
-version_alone = plain VERSION (varint 2) ∷ []
+core_or_around : {Y : Type 0} → (k : ℕ) (g : Y → List ℕ) (ys : List Y) (keys : List (List ℕ)) (values : List Value) (name : List ℕ)
+    (extent : ℕ)
+    → (contents_at k (core_by g ys keys values) ≡ []) ⊎ (contents_at k (head_fields name) ++ contents_at k (extent_fields extent) ≡ [])
+core_or_around k g ys keys values name extent = by_tests (FEATURES == k) (KEYS == k) (VALUES == k) refl refl refl
+  where
+    around : (j : ℕ) → contents_at j (head_fields name) ++ contents_at j (extent_fields extent) ≡ [] → j ≡ k
+        → contents_at k (head_fields name) ++ contents_at k (extent_fields extent) ≡ []
+    around j none same =
+        subst (λ i. contents_at i (head_fields name) ++ contents_at i (extent_fields extent) ≡ []) same none
 
-no_version : {Y : Type 0} → (g : Y → List ℕ) (ys : List Y) (keys : List (List ℕ)) (values : List Value) (name : List ℕ) (extent : ℕ)
-    → contents_at VERSION (rest_by g ys keys values name extent) ≡ []
-no_version g ys keys values name extent = tail_none VERSION g ys keys values extent refl refl refl
+    by_tests : (a b c : Bool) → (FEATURES == k) ≡ a → (KEYS == k) ≡ b → (VALUES == k) ≡ c
+        → (contents_at k (core_by g ys keys values) ≡ []) ⊎ (contents_at k (head_fields name) ++ contents_at k (extent_fields extent) ≡ [])
+    by_tests true b c two three four = inr (around FEATURES refl (eqb-true FEATURES k two))
+    by_tests false true c two three four = inr (around KEYS refl (eqb-true KEYS k three))
+    by_tests false false true two three four = inr (around VALUES refl (eqb-true VALUES k four))
+    by_tests false false false two three four = inl (core_none k g ys keys values two three four)
 
-version_behind : (k : ℕ) (rest : List Content) (b : Bool) → (VERSION == k) ≡ b → (VERSION ≡ k → rest ≡ [])
-    → rest ++ contents_at k version_alone ≡ (if VERSION == k then varint 2 ∷ rest else rest)
-version_behind k rest true e none =
-    let nothing : rest ≡ [] = none (eqb-true VERSION k e) in
-    ap (λ l. l ++ contents_at k version_alone) nothing
-    ∙ ap (λ (t : Bool). if t then varint 2 ∷ [] else []) e
-    ∙ sym (ap (λ (t : Bool). if t then varint 2 ∷ rest else rest) e ∙ ap (λ l. varint 2 ∷ l) nothing)
-version_behind k rest false e none =
-    ap (λ (t : Bool). rest ++ (if t then varint 2 ∷ [] else [])) e ∙ append-nil rest
-    ∙ sym (ap (λ (t : Bool). if t then varint 2 ∷ rest else rest) e)
+nothing_left : {X : Type 0} → (xs ys : List X) → xs ++ ys ≡ [] → xs ≡ []
+nothing_left [] ys none = refl
+nothing_left (x ∷ xs) ys none = cc
 
-moved : {Y : Type 0} → (g : Y → List ℕ) (ys : List Y) (keys : List (List ℕ)) (values : List Value) (name : List ℕ) (extent : ℕ)
-    (xs : List Entry)
-    → map plain_of xs ≡ rest_by g ys keys values name extent ++ version_alone → HasContents g ys keys values name extent xs
-moved g ys keys values name extent xs is k =
-    let rest = rest_by g ys keys values name extent in
-    only_contents k xs ∙ ap (contents_at k) is ∙ contents-append k rest version_alone
-    ∙ version_behind k (contents_at k rest) (VERSION == k) refl
-    (λ number. subst (λ j. contents_at j rest ≡ []) number (no_version g ys keys values name extent))
+nothing_right : {X : Type 0} → (xs ys : List X) → xs ++ ys ≡ [] → ys ≡ []
+nothing_right [] ys none = none
+nothing_right (x ∷ xs) ys none = cc
+
+between : (head tail core front behind : List Content) → head ++ tail ≡ front ++ behind → (core ≡ []) ⊎ (front ++ behind ≡ [])
+    → head ++ (core ++ tail) ≡ front ++ (core ++ behind)
+between head tail core front behind same (inl none) =
+    ap (λ c. head ++ (c ++ tail)) none ∙ same ∙ sym (ap (λ c. front ++ (c ++ behind)) none)
+between head tail core front behind same (inr none) =
+    ap₂ (λ h t. h ++ (core ++ t)) (nothing_left head tail (same ∙ none)) (nothing_right head tail (same ∙ none))
+    ∙ sym (ap₂ (λ f b. f ++ (core ++ b)) (nothing_left front behind none) (nothing_right front behind none))
+
+-- a list in four parts
+in_four : {X : Type 0} → (a b c d : List X) → (a ++ (b ++ c)) ++ d ≡ a ++ (b ++ (c ++ d))
+in_four a b c d = append_assoc a (b ++ c) d ∙ ap (λ r. a ++ r) (append_assoc b c d)
+
+-- whatever the order of the fields around them
+any_order : {Y : Type 0} → (g : Y → List ℕ) (ys : List Y) (keys : List (List ℕ)) (values : List Value) (name : List ℕ) (extent : ℕ)
+    (head tail : List Plain) → AreAlike (head ++ tail) (head_fields name ++ extent_fields extent)
+    → AreAlike (head ++ (core_by g ys keys values ++ tail)) (fields_by g ys keys values name extent)
+any_order g ys keys values name extent head tail alike k =
+    let core = core_by g ys keys values in
+    let behind = extent_fields extent in
+    let same = sym (contents-append k head tail) ∙ alike k ∙ contents-append k (head_fields name) behind in
+    let split = ap (contents_at k) (sym (in_four (all_of FEATURES g ys) (all_of KEYS same_bytes keys) (all_of VALUES value_bytes values)
+    behind)) ∙ contents-append k core behind in
+    contents-append k head (core ++ tail) ∙ ap (λ r. contents_at k head ++ r) (contents-append k core tail)
+    ∙ between (contents_at k head) (contents_at k tail) (contents_at k core) (contents_at k (head_fields name)) (contents_at k behind) same
+    (core_or_around k g ys keys values name extent)
+    ∙ sym (contents-append k (head_fields name) (tail_by g ys keys values extent)
+    ∙ ap (λ r. contents_at k (head_fields name) ++ r) split)
 
 are_contents : {Y : Type 0} → (g : Y → List ℕ) (ys : List Y) (keys : List (List ℕ)) (values : List Value) (name : List ℕ) (extent : ℕ)
     (xs : List Entry)
@@ -297,18 +321,24 @@ fine_bytes : {Y : Type 0} → (k : ℕ) (g : Y → List ℕ) (ys : List Y) → 1
 fine_bytes k g [] low high = tt
 fine_bytes k g (y ∷ ys) low high = (record { first = low; last = high; content = tt }, fine_bytes k g ys low high)
 
-layer_fine : {Y : Type 0} → (g : Y → List ℕ) (ys : List Y) (keys : List (List ℕ)) (values : List Value) (own_name : List ℕ) (own_extent : ℕ)
-    → own_extent < 2 ^ 32 → AllByRecursion IsFine (fields_by g ys keys values own_name own_extent)
-layer_fine g ys keys values own_name own_extent small =
-    let version : IsFine (plain VERSION (varint 2)) = record { first = lit≤ tt; last = lit< tt; content = lit< tt } in
-    let name : IsFine (plain NAME (bytes own_name)) = record { first = lit≤ tt; last = lit< tt; content = tt } in
-    let extent : IsFine (plain EXTENT (varint own_extent)) = record { first = lit≤ tt; last = lit< tt; content = omega arith } in
+core_fits : {Y : Type 0} → (g : Y → List ℕ) (ys : List Y) (keys : List (List ℕ)) (values : List Value)
+    → length (spelled (core_by g ys keys values)) < 2 ^ 32 → AllByRecursion IsFit (core_by g ys keys values)
+core_fits g ys keys values within =
     let features = fine_bytes FEATURES g ys (lit≤ tt) (lit< tt) in
     let key_fields = fine_bytes KEYS same_bytes keys (lit≤ tt) (lit< tt) in
     let value_fields = fine_bytes VALUES value_bytes values (lit≤ tt) (lit< tt) in
-    let last = all_joined IsFine (all_of VALUES value_bytes values) (extent_fields own_extent) value_fields (extent, tt) in
-    let pools = all_joined IsFine (all_of KEYS same_bytes keys) _ key_fields last in
-    (version, (name, all_joined IsFine (all_of FEATURES g ys) _ features pools))
+    let pools = all_joined IsFine (all_of KEYS same_bytes keys) _ key_fields value_fields in
+    all_fit (core_by g ys keys values) (all_joined IsFine (all_of FEATURES g ys) _ features pools) (omega arith)
+
+around_fit : (name : List ℕ) (extent : ℕ) → length name < 2 ^ 64 → extent < 2 ^ 32
+    → AllByRecursion IsFit (head_fields name) × AllByRecursion IsFit (extent_fields extent)
+around_fit name extent short small = (
+  (
+    record { first = lit≤ tt; last = lit< tt; content = lit< tt },
+    (record { first = lit≤ tt; last = lit< tt; content = short }, tt),
+  ),
+  (record { first = lit≤ tt; last = lit< tt; content = omega arith }, tt),
+)
 
 -- the sizes of the payloads
 sizes : {Y : Type 0} → (k : ℕ) (g : Y → List ℕ) (ys : List Y) → AllByRecursion IsFit (all_of k g ys)
@@ -413,12 +443,6 @@ features_read keys values (f ∷ fs) few_keys few_values valid held small =
       features_read keys values fs few_keys few_values valid.1 held.1 small.1,
     )
 
-layer_fits : {Y : Type 0} → (g : Y → List ℕ) (ys : List Y) (keys : List (List ℕ)) (values : List Value) (name : List ℕ) (extent : ℕ)
-    → extent < 2 ^ 32 → length (spelled (fields_by g ys keys values name extent)) < 2 ^ 32
-    → AllByRecursion IsFit (fields_by g ys keys values name extent)
-layer_fits g ys keys values name extent small within =
-    all_fit (fields_by g ys keys values name extent) (layer_fine g ys keys values name extent small) (omega arith)
-
 -- entries of keys and of values, among which are those that the features use
 pub record AreEnough (keys : List (List ℕ)) (values : List Value) (features : List Feature) : Type 0 where
   pub texts : AllByRecursion IsUtf8 keys
@@ -449,51 +473,34 @@ more_enough features more_keys more_values valid texts valid_values =
           features (features_held features);
     }
 
--- fields with the contents of a layer are this layer
-pub item_from : {Y : Type 0} → (g : Y → List ℕ) (ys : List Y) (keys : List (List ℕ)) (values : List Value) (layer : ALayer) (b : List ℕ)
-    (xs : List Entry)
-    → Whole b xs → HasContents g ys keys values layer.name layer.extent xs → IsUtf8 layer.name → layer.extent < 2 ^ 32
-    → AllByRecursion IsUtf8 keys → AllByRecursion ValidValue values
+-- the core is no longer than the whole
+core_within : (head core tail : List Plain) (b : List ℕ) → b ≡ spelled (head ++ (core ++ tail)) → length (spelled core) ≤ length b
+core_within head core tail b is =
+    let front = spelled_length head (core ++ tail) in
+    let behind = spelled_length core tail in
+    omega (arith, ap length is, front, behind)
+
+-- features, keys and values between fields that are alike the version, the name and the extent are this layer
+pub item_around : {Y : Type 0} → (g : Y → List ℕ) (ys : List Y) (keys : List (List ℕ)) (values : List Value) (layer : ALayer)
+    (head tail : List Plain) (b : List ℕ)
+    → b ≡ spelled (head ++ (core_by g ys keys values ++ tail)) → length b < 2 ^ 32
+    → AllByRecursion IsFit head → AllByRecursion IsFit tail → AreAlike (head ++ tail) (head_fields layer.name ++ extent_fields layer.extent)
+    → IsUtf8 layer.name → layer.extent < 2 ^ 32 → AllByRecursion IsUtf8 keys → AllByRecursion ValidValue values
     → ((zs : List Entry) → map (λ (z : Entry). z.content) zs ≡ map (λ y. bytes (g y)) ys
     → AreRelated (HoldsFeature keys values) zs layer.features)
-    → length (spelled (fields_by g ys keys values layer.name layer.extent)) < 2 ^ 32 → IsItem b (Layer layer)
+    → IsItem b (Layer layer)
 unfolding IsItem
-item_from g ys keys values layer b xs whole at name extent texts valid features within =
-    let fits = layer_fits g ys keys values layer.name layer.extent extent within in
-    let pool_fits = all_right IsFit (all_of KEYS same_bytes keys) _ (all_right IsFit (all_of FEATURES g ys) _ fits.1.1) in
-    let value_sizes = sizes VALUES value_bytes values
-    (all_left IsFit (all_of VALUES value_bytes values) (extent_fields layer.extent) pool_fits) in
-    let is = layer_is g ys xs keys values layer at name extent texts (values_read values valid value_sizes) features in
-    (xs, whole, is.0, (is.1, is.2))
-
--- the version stands before the other fields of such a layer, or behind them
-pub item_in_place : {Y : Type 0} → (g : Y → List ℕ) (ys : List Y) (keys : List (List ℕ)) (values : List Value) (layer : ALayer)
-    → IsUtf8 layer.name → layer.extent < 2 ^ 32 → AllByRecursion IsUtf8 keys → AllByRecursion ValidValue values
-    → ((zs : List Entry) → map (λ (z : Entry). z.content) zs ≡ map (λ y. bytes (g y)) ys
-    → AreRelated (HoldsFeature keys values) zs layer.features)
-    → length (spelled (fields_by g ys keys values layer.name layer.extent)) < 2 ^ 32
-    → IsItem (spelled (fields_by g ys keys values layer.name layer.extent)) (Layer layer)
-item_in_place g ys keys values layer name extent texts valid features within =
-    let fields = fields_by g ys keys values layer.name layer.extent in
-    let whole = spelled_whole_whole fields (layer_fits g ys keys values layer.name layer.extent extent within) in
-    item_from g ys keys values layer (spelled fields) whole.0 whole.1 (in_place g ys keys values layer.name layer.extent whole.0 whole.2)
-    name extent
-    texts valid features within
-
-pub item_moved : {Y : Type 0} → (g : Y → List ℕ) (ys : List Y) (keys : List (List ℕ)) (values : List Value) (layer : ALayer)
-    → IsUtf8 layer.name → layer.extent < 2 ^ 32 → AllByRecursion IsUtf8 keys → AllByRecursion ValidValue values
-    → ((zs : List Entry) → map (λ (z : Entry). z.content) zs ≡ map (λ y. bytes (g y)) ys
-    → AreRelated (HoldsFeature keys values) zs layer.features)
-    → length (spelled (fields_by g ys keys values layer.name layer.extent)) < 2 ^ 32
-    → IsItem (spelled (rest_by g ys keys values layer.name layer.extent) ++ short_field VERSION (varint 2)) (Layer layer)
-item_moved g ys keys values layer name extent texts valid features within =
-    let fits = layer_fits g ys keys values layer.name layer.extent extent within in
-    let rest = rest_by g ys keys values layer.name layer.extent in
-    let whole = spelled_whole_whole (rest ++ version_alone) (all_joined IsFit rest version_alone fits.1 (fits.0, tt)) in
-    subst (λ b. IsItem b (Layer layer))
-    (spelled_parts rest version_alone ∙ ap (λ v. spelled rest ++ v) (append-nil (short_field VERSION (varint 2))))
-    (item_from g ys keys values layer (spelled (rest ++ version_alone)) whole.0 whole.1
-    (moved g ys keys values layer.name layer.extent whole.0 whole.2) name extent texts valid features within)
+item_around g ys keys values layer head tail b is within head_fit tail_fit alike name extent texts valid features =
+    let core = core_by g ys keys values in
+    let fits = core_fits g ys keys values (omega (arith, core_within head core tail b is)) in
+    let pool_fits = all_right IsFit (all_of KEYS same_bytes keys) _ (all_right IsFit (all_of FEATURES g ys) _ fits) in
+    let value_sizes = sizes VALUES value_bytes values pool_fits in
+    let whole = spelled_whole_whole (head ++ (core ++ tail))
+    (all_joined IsFit head (core ++ tail) head_fit (all_joined IsFit core tail fits tail_fit)) in
+    let at = λ (k : ℕ). only_contents k whole.0 ∙ ap (contents_at k) whole.2
+    ∙ any_order g ys keys values layer.name layer.extent head tail alike k in
+    let layer_read = layer_is g ys whole.0 keys values layer at name extent texts (values_read values valid value_sizes) features in
+    subst (λ c. IsItem c (Layer layer)) (sym is) (whole.0, whole.1, layer_read.0, (layer_read.1, layer_read.2))
 
 -- features in their canonical payloads
 pub features_are : (keys : List (List ℕ)) (values : List Value) (features : List Feature) → length keys ≤ 2 ^ 32 → length values ≤ 2 ^ 32
@@ -505,55 +512,72 @@ features_are keys values features few_keys few_values valid held small zs is =
     related_contents (feature_bytes keys values) (λ b f. IsFeatureOf b keys values f) zs features is
     (features_read keys values features few_keys few_values valid held small)
 
-own_features : (keys : List (List ℕ)) (values : List Value) (layer : ALayer) → ValidLayer layer → AreEnough keys values layer.features
-    → length (spelled (fields_with keys values layer)) < 2 ^ 32
-    → (zs : List Entry) → map (λ (z : Entry). z.content) zs ≡ map (λ f. bytes (feature_bytes keys values f)) layer.features
-    → AreRelated (HoldsFeature keys values) zs layer.features
-unfolding ValidLayer
-own_features keys values layer valid enough within =
-    let features = layer.features in
-    let fits = layer_fits (feature_bytes keys values) features keys values layer.name layer.extent valid.1 within in
-    let feature_sizes = sizes FEATURES (feature_bytes keys values) features
-    (all_left IsFit (all_of FEATURES (feature_bytes keys values) features) _ fits.1.1) in
-    let pools = pools_within keys values layer in
-    features_are keys values features (omega (arith, pools.0)) (omega (arith, pools.1)) valid.2 enough.held feature_sizes
+core_pools : {Y : Type 0} → (g : Y → List ℕ) (ys : List Y) (keys : List (List ℕ)) (values : List Value)
+    → (2 * length keys ≤ length (spelled (core_by g ys keys values))) × (2 * length values ≤ length (spelled (core_by g ys keys values)))
+core_pools g ys keys values =
+    let a = spelled_length (all_of FEATURES g ys) (all_of KEYS same_bytes keys ++ all_of VALUES value_bytes values) in
+    let b = spelled_length (all_of KEYS same_bytes keys) (all_of VALUES value_bytes values) in
+    let k = count_bytes KEYS same_bytes keys in
+    let v = count_bytes VALUES value_bytes values in
+    (omega (arith, a, b, k, v), omega (arith, a, b, k, v))
 
-layer_in_place : (keys : List (List ℕ)) (values : List Value) (layer : ALayer) → ValidLayer layer → AreEnough keys values layer.features
-    → length (spelled (fields_with keys values layer)) < 2 ^ 32 → IsItem (spelled (fields_with keys values layer)) (Layer layer)
+own_features : (keys : List (List ℕ)) (values : List Value) (features : List Feature) → AllByRecursion ValidFeature features
+    → AreEnough keys values features → length (spelled (core_with keys values features)) < 2 ^ 32
+    → (zs : List Entry) → map (λ (z : Entry). z.content) zs ≡ map (λ f. bytes (feature_bytes keys values f)) features
+    → AreRelated (HoldsFeature keys values) zs features
+own_features keys values features valid enough within =
+    let g = feature_bytes keys values in
+    let fits = core_fits g features keys values within in
+    let feature_sizes = sizes FEATURES g features (all_left IsFit (all_of FEATURES g features) _ fits) in
+    let pools = core_pools g features keys values in
+    features_are keys values features (omega (arith, pools.0)) (omega (arith, pools.1)) valid enough.held feature_sizes
+
+layer_between : (keys : List (List ℕ)) (values : List Value) (layer : ALayer) (head tail : List Plain) (b : List ℕ)
+    → ValidLayer layer → AreEnough keys values layer.features
+    → b ≡ spelled (head ++ (core_with keys values layer.features ++ tail)) → length b < 2 ^ 32
+    → AllByRecursion IsFit head → AllByRecursion IsFit tail → AreAlike (head ++ tail) (head_fields layer.name ++ extent_fields layer.extent)
+    → IsItem b (Layer layer)
 unfolding ValidLayer
-layer_in_place keys values layer valid enough within =
-    item_in_place (feature_bytes keys values) layer.features keys values layer valid.0 valid.1 enough.texts enough.valid
-    (own_features keys values layer valid enough within) within
+layer_between keys values layer head tail b valid enough is within head_fit tail_fit alike =
+    let core = core_with keys values layer.features in
+    item_around (feature_bytes keys values) layer.features keys values layer head tail b is within head_fit tail_fit alike
+    valid.0 valid.1 enough.texts enough.valid
+    (own_features keys values layer.features valid.2 enough (omega (arith, core_within head core tail b is)))
+
+-- also with keys and values behind that no feature uses
+pub layer_around : (layer : ALayer) (more_keys : List (List ℕ)) (more_values : List Value) (head tail : List Plain) (b : List ℕ)
+    → ValidLayer layer → AllByRecursion IsUtf8 more_keys → AllByRecursion ValidValue more_values
+    → b ≡ spelled (head ++ (core_with (keys_of layer.features ++ more_keys) (values_of layer.features ++ more_values) layer.features
+    ++ tail))
+    → length b < 2 ^ 32 → AllByRecursion IsFit head → AllByRecursion IsFit tail
+    → AreAlike (head ++ tail) (head_fields layer.name ++ extent_fields layer.extent) → IsItem b (Layer layer)
+unfolding ValidLayer
+layer_around layer more_keys more_values head tail b valid texts valid_values =
+    layer_between (keys_of layer.features ++ more_keys) (values_of layer.features ++ more_values) layer head tail b valid
+    (more_enough layer.features more_keys more_values valid.2 texts valid_values)
+
+-- the fields of a layer, and those between its head and its extent
+pub layer_parts : (keys : List (List ℕ)) (values : List Value) (layer : ALayer)
+    → spelled (fields_with keys values layer)
+    ≡ spelled (head_fields layer.name ++ (core_with keys values layer.features ++ extent_fields layer.extent))
+layer_parts keys values layer =
+    ap (λ r. spelled (head_fields layer.name ++ r)) (sym (in_four (map (feature_field keys values) layer.features) (map key_field keys)
+    (map value_field values) (extent_fields layer.extent)))
 
 layer_canonical : (layer : ALayer) → ValidLayer layer → length (spelled (layer_fields layer)) < 2 ^ 32
     → IsItem (spelled (layer_fields layer)) (Layer layer)
 unfolding ValidLayer
 layer_canonical layer valid within =
-    layer_in_place (keys_of layer.features) (values_of layer.features) layer valid (used_enough layer.features valid.2) within
-
--- also with keys and values behind that no feature uses
-pub layer_longer : (layer : ALayer) (more_keys : List (List ℕ)) (more_values : List Value) → ValidLayer layer
-    → AllByRecursion IsUtf8 more_keys → AllByRecursion ValidValue more_values
-    → length (spelled (fields_with (keys_of layer.features ++ more_keys) (values_of layer.features ++ more_values) layer)) < 2 ^ 32
-    → IsItem (spelled (fields_with (keys_of layer.features ++ more_keys) (values_of layer.features ++ more_values) layer)) (Layer layer)
-unfolding ValidLayer
-layer_longer layer more_keys more_values valid texts valid_values within =
-    layer_in_place (keys_of layer.features ++ more_keys) (values_of layer.features ++ more_values) layer valid
-    (more_enough layer.features more_keys more_values valid.2 texts valid_values) within
-
--- and its version may stand behind them
-pub layer_moved : (layer : ALayer) (more_keys : List (List ℕ)) (more_values : List Value) → ValidLayer layer
-    → AllByRecursion IsUtf8 more_keys → AllByRecursion ValidValue more_values
-    → length (spelled (fields_with (keys_of layer.features ++ more_keys) (values_of layer.features ++ more_values) layer)) < 2 ^ 32
-    → IsItem (spelled (body_with (keys_of layer.features ++ more_keys) (values_of layer.features ++ more_values) layer)
-    ++ short_field VERSION (varint 2)) (Layer layer)
-unfolding ValidLayer
-layer_moved layer more_keys more_values valid texts valid_values within =
-    let keys = keys_of layer.features ++ more_keys in
-    let values = values_of layer.features ++ more_values in
-    let enough = more_enough layer.features more_keys more_values valid.2 texts valid_values in
-    item_moved (feature_bytes keys values) layer.features keys values layer valid.0 valid.1 enough.texts enough.valid
-    (own_features keys values layer valid enough within) within
+    let keys = keys_of layer.features in
+    let values = values_of layer.features in
+    let short = short_lengths_bytes NAME layer.name in
+    let version_size = spelled_length (head_fields layer.name)
+    (tail_by (feature_bytes keys values) layer.features keys values layer.extent) in
+    let head_size = spelled_length (plain VERSION (varint 2) ∷ []) (plain NAME (bytes layer.name) ∷ []) in
+    let name_size = length-append (short_field NAME (bytes layer.name)) [] in
+    let fits = around_fit layer.name layer.extent (omega (arith, short, version_size, head_size, name_size)) valid.1 in
+    layer_between keys values layer (head_fields layer.name) (extent_fields layer.extent) (spelled (layer_fields layer)) valid
+    (used_enough layer.features valid.2) (layer_parts keys values layer) within fits.0 fits.1 (λ k. refl)
 
 foreign_canonical : (version : ℕ) (content : List ℕ) → AreOfVersion version content → IsItem content (Foreign version content)
 unfolding IsItem

@@ -1,5 +1,5 @@
 -- A layer that is canonical but for where its version stands, and for last keys and values that no feature uses.
-use Rattle.std.proofs.Common.{◌≡◌, ℕ, zero, suc, ◌+◌, ◌-◌, ◌<◌, ◌≤◌, ◌^◌, List, [], ◌∷◌, ◌++◌, length, map, take, drop, get_or, Bor, inl, inr, zero-add, refl, sym, ap, ap₂, subst, ◌∙◌, arith, append_assoc, append-nil, length-append, slice_get, Some}
+use Rattle.std.proofs.Common.{◌≡◌, ℕ, zero, suc, ◌+◌, ◌-◌, ◌<◌, ◌≤◌, List, [], ◌∷◌, ◌++◌, length, map, take, drop, get_or, Bor, zero-add, refl, sym, ap, ap₂, subst, ◌∙◌, arith, append_assoc, append-nil, length-append, slice_get, Some}
 use Rattle.std.proofs.lemmas.List.{drop-map, length-drop, map-append, take_more, take-append-drop}
 use Rattle.std.proofs.lemmas.Option.{slice_get-get_or}
 use Rattle.std.proofs.Math.Seq.{take-append_seam, take-length}
@@ -23,18 +23,19 @@ use Rattle.mvt_feature.specs.Valid.{ValidFeature, ValidValue}
 use Rattle.mvt_wire.proofs.WireLaws.{spelled_parts}
 use Rattle.mvt_message.specs.declared.item.Layer.{Layer as ALayer}
 use Rattle.mvt_message.specs.declared.item.Item.TheVariants.{Layer}
-use Rattle.mvt_message.specs.declared.numbers.layer.TheConstants.{NAME, FEATURES, KEYS, VALUES, EXTENT, VERSION}
-use Rattle.mvt_message.specs.CanonicalItems.{canonical_item, keys_of, values_of, feature_field, key_field, value_field, extent_fields, fields_with}
-use Rattle.mvt_message.specs.Copying.{body_with, body_fields, IsBodyOf, IsCanonicalLayer, IsCopied, HasBody, AreFieldsFrom, AreKeysFrom, ArePayloadsFrom, AreValuesFrom, AreFeaturesFrom, lent_field}
+use Rattle.mvt_message.specs.declared.numbers.layer.TheConstants.{NAME, FEATURES, KEYS, VALUES, VERSION}
+use Rattle.mvt_message.specs.Around.{IsAround}
+use Rattle.mvt_message.specs.CanonicalItems.{canonical_item, keys_of, values_of, head_fields, feature_field, key_field, value_field, extent_fields}
+use Rattle.mvt_message.specs.Copying.{core_with, IsCoreOf, IsCanonicalLayer, IsCopied, AreFieldsFrom, AreKeysFrom, ArePayloadsFrom, AreValuesFrom, AreFeaturesFrom, lent_field}
 use Rattle.mvt_message.specs.Items.{IsItem}
 use Rattle.mvt_message.specs.ValidItems.{ValidItem, ValidLayer}
-use Rattle.mvt_message.proofs.CanonicalLemmas.{features_held, layer_longer, layer_moved}
+use Rattle.mvt_message.proofs.CanonicalLemmas.{features_held, layer_around, layer_parts}
 use Rattle.mvt_message.proofs.PoolLemmas.{keys_distinct, keys_more, values_distinct, values_more}
 use Rattle.mvt_message.proofs.PutLemmas.{entry_step}
 use Rattle.mvt_message.proofs.RewriteLemmas.{keys_none, values_none}
 
 -- one more field
-fields_more : (start at after : List ℕ) (done : List Plain) (p : Plain) → start ≡ spelled done ++ at
+pub fields_more : (start at after : List ℕ) (done : List Plain) (p : Plain) → start ≡ spelled done ++ at
     → at ≡ short_field p.number p.content ++ after → start ≡ spelled (done ++ p ∷ []) ++ after
 fields_more start at after done p is front =
     is ∙ ap (λ r. spelled done ++ r) front ∙ sym (append_assoc (spelled done) (short_field p.number p.content) after)
@@ -257,35 +258,34 @@ unused_step number used payloads i at end size rest default rest_is within field
         ap length (split_spelled (lent_field number) n bs)
         ∙ length-append (spelled (map (lent_field number) (take n bs))) (spelled (map (lent_field number) (drop n bs)))
 
--- a front and a part of a body
-cut : (body n f k more_k v more_v : List ℕ) (features_at keys_at values_at extent_at keys_end values_end : ℕ)
-    → body ≡ n ++ drop features_at body
+-- two parts of a body
+cut : (body f k more_k v more_v : List ℕ) (features_at keys_at values_at end_at keys_end values_end : ℕ)
     → drop features_at body ≡ f ++ drop keys_at body → drop keys_at body ≡ (k ++ more_k) ++ drop values_at body
-    → drop values_at body ≡ (v ++ more_v) ++ drop extent_at body → values_at ≤ length body → extent_at ≤ length body
-    → keys_end + length more_k ≡ values_at → values_end + length more_v ≡ extent_at
-    → take keys_end body ++ (take (values_end - values_at) (drop values_at body) ++ drop extent_at body)
-    ≡ (n ++ (f ++ k)) ++ (v ++ drop extent_at body)
-cut body n f k more_k v more_v features_at keys_at values_at extent_at keys_end values_end named features keys values keys_within within
+    → drop values_at body ≡ (v ++ more_v) ++ drop end_at body → features_at ≤ length body → values_at ≤ length body → end_at ≤ length body
+    → keys_end + length more_k ≡ values_at → values_end + length more_v ≡ end_at
+    → take (keys_end - features_at) (drop features_at body) ++ take (values_end - values_at) (drop values_at body) ≡ (f ++ k) ++ v
+cut body f k more_k v more_v features_at keys_at values_at end_at keys_end values_end features keys values start_within keys_within within
     keys_are values_are =
-    let front = n ++ (f ++ k) in
+    let front = f ++ k in
     let rest = more_k ++ drop values_at body in
-    let whole : body ≡ front ++ rest =
-    named ∙ ap (λ d. n ++ d) (features ∙ ap (λ d. f ++ d) keys) ∙ regroup n f k more_k (drop values_at body) in
-    let last = more_v ++ drop extent_at body in
-    let part : drop values_at body ≡ v ++ last = values ∙ append_assoc v more_v (drop extent_at body) in
+    let whole : drop features_at body ≡ front ++ rest =
+    features ∙ ap (λ d. f ++ d) keys ∙ regroup f k more_k (drop values_at body) in
+    let last = more_v ++ drop end_at body in
+    let part : drop values_at body ≡ v ++ last = values ∙ append_assoc v more_v (drop end_at body) in
     let size = ap length whole ∙ length-append front rest in
     let rest_size = length-append more_k (drop values_at body) in
-    let front_end : keys_end ≡ length front = omega (arith, size, rest_size, length-drop values_at body, keys_are, keys_within) in
+    let front_end : keys_end - features_at ≡ length front =
+    omega (arith, size, rest_size, length-drop features_at body, length-drop values_at body, keys_are, start_within, keys_within) in
     let part_size = ap length part ∙ length-append v last in
-    let last_size = length-append more_v (drop extent_at body) in
+    let last_size = length-append more_v (drop end_at body) in
     let part_end : values_end - values_at ≡ length v =
-    omega (arith, part_size, last_size, length-drop values_at body, length-drop extent_at body, values_are, within) in
-    ap₂ (λ a b. a ++ (b ++ drop extent_at body))
-    (ap (λ m. take m body) front_end ∙ ap (take (length front)) whole ∙ take-append_seam front rest)
+    omega (arith, part_size, last_size, length-drop values_at body, length-drop end_at body, values_are, within) in
+    ap₂ (λ a b. a ++ b)
+    (ap (λ m. take m (drop features_at body)) front_end ∙ ap (take (length front)) whole ∙ take-append_seam front rest)
     (ap (λ m. take m (drop values_at body)) part_end ∙ ap (take (length v)) part ∙ take-append_seam v last)
   where
-    regroup : (n f k m d : List ℕ) → n ++ (f ++ ((k ++ m) ++ d)) ≡ (n ++ (f ++ k)) ++ (m ++ d)
-    regroup n f k m d = simp append_assoc
+    regroup : (f k m d : List ℕ) → f ++ ((k ++ m) ++ d) ≡ (f ++ k) ++ (m ++ d)
+    regroup f k m d = simp append_assoc
 
 -- where the fields of keys and of values end
 pub payloads_room : (body : List ℕ) (start number at : ℕ) (payloads : List (Bor (List ℕ))) → start ≤ length body
@@ -293,38 +293,46 @@ pub payloads_room : (body : List ℕ) (start number at : ℕ) (payloads : List (
 payloads_room body start number at payloads within (from, is) =
     fields_end body (spelled (map (lent_field number) payloads)) start at is within from
 
-pub values_room : (body : List ℕ) (values_at extent_at : ℕ) (payloads : List (Bor (List ℕ))) → values_at ≤ length body
-    → AreValuesFrom body values_at payloads extent_at → values_at + length (spelled (map (lent_field VALUES) payloads)) ≡ extent_at
-values_room body values_at extent_at payloads within (from, (values, is, _, are)) =
-    let end = fields_end body (spelled (map value_field values)) values_at extent_at is within from in
+pub values_room : (body : List ℕ) (values_at end_at : ℕ) (payloads : List (Bor (List ℕ))) → values_at ≤ length body
+    → AreValuesFrom body values_at payloads end_at → values_at + length (spelled (map (lent_field VALUES) payloads)) ≡ end_at
+values_room body values_at end_at payloads within (from, (values, is, _, are)) =
+    let end = fields_end body (spelled (map value_field values)) values_at end_at is within from in
     omega (arith, end, ap (λ fs. length (spelled fs)) (values_as_lent payloads values are))
 
-pub values_past : (values_at extent_at values_end n : ℕ) (payloads : List (Bor (List ℕ)))
-    → values_at + length (spelled (map (lent_field VALUES) payloads)) ≡ extent_at
-    → values_end + length (spelled (map (lent_field VALUES) (drop n payloads))) ≡ extent_at → values_at ≤ values_end
-values_past values_at extent_at values_end n payloads all unused =
+pub keys_past : (keys_at values_at keys_end n : ℕ) (payloads : List (Bor (List ℕ)))
+    → keys_at + length (spelled (map (lent_field KEYS) payloads)) ≡ values_at
+    → keys_end + length (spelled (map (lent_field KEYS) (drop n payloads))) ≡ values_at → keys_at ≤ keys_end
+keys_past keys_at values_at keys_end n payloads all unused =
+    let parts = ap length (split_spelled (lent_field KEYS) n payloads)
+    ∙ length-append (spelled (map (lent_field KEYS) (take n payloads))) (spelled (map (lent_field KEYS) (drop n payloads))) in
+    omega (arith, all, unused, parts)
+
+pub values_past : (values_at end_at values_end n : ℕ) (payloads : List (Bor (List ℕ)))
+    → values_at + length (spelled (map (lent_field VALUES) payloads)) ≡ end_at
+    → values_end + length (spelled (map (lent_field VALUES) (drop n payloads))) ≡ end_at → values_at ≤ values_end
+values_past values_at end_at values_end n payloads all unused =
     let parts = ap length (split_spelled (lent_field VALUES) n payloads)
     ∙ length-append (spelled (map (lent_field VALUES) (take n payloads))) (spelled (map (lent_field VALUES) (drop n payloads))) in
     omega (arith, all, unused, parts)
 
 -- the keys, the values and the features of a body
-pub record IsRead (WereTold : List Feature → Type 0) (body : List ℕ) (features_at keys_at values_at extent_at : ℕ) (keys : List (List ℕ))
+pub record IsRead (WereTold : List Feature → Type 0) (body : List ℕ) (features_at keys_at values_at end_at : ℕ) (keys : List (List ℕ))
     (payloads : List (Bor (List ℕ)))
     (used : ℕ × ℕ) : Type 0 where
   pub values : List Value
-  pub fields : drop values_at body ≡ spelled (map value_field values) ++ drop extent_at body
+  pub fields : drop values_at body ≡ spelled (map value_field values) ++ drop end_at body
   pub are : lent payloads ≡ map value_bytes values
   pub count : length values ≡ length payloads
   pub from : AreFeaturesFrom WereTold body features_at keys values keys_at used
 
-pub is_read : (WereTold : List Feature → Type 0) (body : List ℕ) (features_at keys_at values_at extent_at count : ℕ)
+pub is_read : (WereTold : List Feature → Type 0) (body : List ℕ) (features_at keys_at values_at end_at count : ℕ)
     (keys : List (List ℕ)) (payloads : List (Bor (List ℕ)))
-    (used : ℕ × ℕ) → AreKeysFrom body keys_at keys values_at → AreValuesFrom body values_at payloads extent_at → AreDistinct keys
+    (used : ℕ × ℕ) → AreKeysFrom body keys_at keys values_at → AreValuesFrom body values_at payloads end_at → AreDistinct keys
     → AreDistinct (lent payloads) → count ≡ length payloads
     → ((held : List Value) → length held ≡ count → AreReady keys held (0, 0)
     → AreFeaturesFrom WereTold body features_at keys held keys_at used)
-    → IsRead WereTold body features_at keys_at values_at extent_at keys payloads used
-is_read WereTold body features_at keys_at values_at extent_at count keys payloads used (_, _, texts) (_, (values, is, valid, are))
+    → IsRead WereTold body features_at keys_at values_at end_at keys payloads used
+is_read WereTold body features_at keys_at values_at end_at count keys payloads used (_, _, texts) (_, (values, is, valid, are))
     keys_apart payloads_apart
     counted from =
     let ready = ready_values keys payloads values are keys_apart payloads_apart texts valid in
@@ -355,40 +363,28 @@ features_stay features more_keys more_values =
     fields_stay (keys_of features) more_keys (values_of features) more_values features (keys_distinct features) (values_distinct features)
     (features_held features)
 
--- the fields of a layer's features
-abbrev own_fields : ALayer → List Plain
-own_fields layer = map (feature_field (keys_of layer.features) (values_of layer.features)) layer.features
-
--- what stands in the body of a layer
-pub parts_spelled : (name : List ℕ) (features keys values : List Plain) (extent : ℕ)
-    → spelled (plain NAME (bytes name) ∷ (features ++ (keys ++ (values ++ extent_fields extent))))
-    ≡ short_field NAME (bytes name) ++ (spelled features ++ (spelled keys ++ (spelled values ++ spelled (extent_fields extent))))
-parts_spelled name features keys values extent =
-    ap (λ r. short_field NAME (bytes name) ++ r)
-    (spelled_parts features (keys ++ (values ++ extent_fields extent))
-    ∙ ap (λ r. spelled features ++ r) (spelled_parts keys (values ++ extent_fields extent)
-    ∙ ap (λ r. spelled keys ++ r) (spelled_parts values (extent_fields extent))))
+-- what stands between the fields around
+pub parts_spelled : (features keys values : List Plain)
+    → spelled (features ++ (keys ++ values)) ≡ spelled features ++ (spelled keys ++ spelled values)
+parts_spelled features keys values =
+    spelled_parts features (keys ++ values) ∙ ap (λ r. spelled features ++ r) (spelled_parts keys values)
 
 pub all_dropped : {Y : Type 0} → (P : Y → Type 0) (n : ℕ) (ys : List Y) → AllByRecursion P ys → AllByRecursion P (drop n ys)
 all_dropped P n ys all = all_right P (take n ys) (drop n ys) (subst (AllByRecursion P) (sym (take-append-drop n ys)) all)
 
-body_is : (WereTold : List Feature → Type 0) (body name : List ℕ) (features_at keys_at values_at extent_at keys_end values_end extent : ℕ)
+core_is : (WereTold : List Feature → Type 0) (body : List ℕ) (features_at keys_at values_at end_at keys_end values_end : ℕ)
     (keys : List (List ℕ))
     (values : List Value) (used : ℕ × ℕ)
-    → body ≡ short_field NAME (bytes name) ++ drop features_at body → IsUtf8 name
-    → AreFeaturesFrom WereTold body features_at keys values keys_at used
+    → AreFeaturesFrom WereTold body features_at keys values keys_at used → features_at ≤ length body
     → drop keys_at body ≡ spelled (map key_field keys) ++ drop values_at body → values_at ≤ length body
-    → drop values_at body ≡ spelled (map value_field values) ++ drop extent_at body → extent_at ≤ length body
-    → drop extent_at body ≡ short_field EXTENT (varint extent) → extent < 2 ^ 32
+    → drop values_at body ≡ spelled (map value_field values) ++ drop end_at body → end_at ≤ length body
     → keys_end + length (spelled (map key_field (drop used.0 keys))) ≡ values_at
-    → values_end + length (spelled (map value_field (drop used.1 values))) ≡ extent_at
-    → IsBodyOf WereTold body name (take keys_end body ++ (take (values_end - values_at) (drop values_at body) ++ drop extent_at body))
-unfolding ValidLayer
-body_is WereTold body name features_at keys_at values_at extent_at keys_end values_end extent keys values used named text from keys_are
-    keys_within values_are
-    within ends small keys_end_is values_end_is =
+    → values_end + length (spelled (map value_field (drop used.1 values))) ≡ end_at
+    → IsCoreOf WereTold body features_at end_at
+    (take (keys_end - features_at) (drop features_at body) ++ take (values_end - values_at) (drop values_at body))
+core_is WereTold body features_at keys_at values_at end_at keys_end values_end keys values used from start_within keys_are keys_within
+    values_are within keys_end_is values_end_is =
     let features = from.features in
-    let layer : ALayer = record { name = name; extent = extent; features = features } in
     let own_keys = take used.0 keys in
     let more_keys = drop used.0 keys in
     let own_values = take used.1 values in
@@ -397,181 +393,162 @@ body_is WereTold body name features_at keys_at values_at extent_at keys_end valu
     let all_values : values_of features ++ more_values ≡ values = ap (λ vs. vs ++ more_values) from.values_are
     ∙ take-append-drop used.1 values in
     let own = spelled (map (feature_field keys values) features) in
-    let last : drop extent_at body ≡ spelled (extent_fields extent) = ends ∙ sym (append-nil (short_field EXTENT (varint extent))) in
-    let head = short_field NAME (bytes name) in
+    let key_bytes = spelled (map key_field keys) in
+    let value_part = spelled (map value_field values) in
     let cuts =
-    cut body head own (spelled (map key_field own_keys)) (spelled (map key_field more_keys)) (spelled (map value_field own_values))
-    (spelled (map value_field more_values)) features_at keys_at values_at extent_at keys_end values_end named from.fields
+    cut body own (spelled (map key_field own_keys)) (spelled (map key_field more_keys)) (spelled (map value_field own_values))
+    (spelled (map value_field more_values)) features_at keys_at values_at end_at keys_end values_end from.fields
     (keys_are ∙ ap (λ k. k ++ drop values_at body) (split_spelled key_field used.0 keys))
-    (values_are ∙ ap (λ v. v ++ drop extent_at body) (split_spelled value_field used.1 values)) keys_within within keys_end_is
+    (values_are ∙ ap (λ v. v ++ drop end_at body) (split_spelled value_field used.1 values)) start_within keys_within within keys_end_is
     values_end_is in
     let stays : map (feature_field keys values) features ≡ map (feature_field (keys_of features) (values_of features)) features =
     ap₂ (λ ks vs. map (feature_field ks vs) features) (sym all_keys) (sym all_values) ∙ features_stay features more_keys more_values in
-    let whole : body ≡ spelled (body_with keys values layer) =
-    named ∙ ap (λ r. head ++ r) (from.fields ∙ ap (λ r. own ++ r) (keys_are ∙ ap (λ r. spelled (map key_field keys) ++ r)
-    (values_are ∙ ap (λ r. spelled (map value_field values) ++ r) last)))
-    ∙ sym (parts_spelled name (map (feature_field keys values) features) (map key_field keys) (map value_field values) extent) in
+    let whole : drop features_at body ≡ spelled (core_with keys values features) ++ drop end_at body =
+    from.fields ∙ ap (λ r. own ++ r) (keys_are ∙ ap (λ r. key_bytes ++ r) values_are)
+    ∙ regroup own key_bytes value_part (drop end_at body)
+    ∙ ap (λ l. l ++ drop end_at body)
+    (sym (parts_spelled (map (feature_field keys values) features) (map key_field keys) (map value_field values))) in
     record {
-      layer = layer;
+      features = features;
       more_keys = more_keys;
       more_values = more_values;
-      valid = (text, small, from.valid);
+      valid = from.valid;
       texts = all_dropped IsUtf8 used.0 keys from.ready.texts;
       valid_values = all_dropped ValidValue used.1 values from.ready.valid;
-      name_is = refl;
-      body_is = whole ∙ ap₂ (λ ks vs. spelled (body_with ks vs layer)) (sym all_keys) (sym all_values);
+      stand = whole ∙ ap₂ (λ ks vs. spelled (core_with ks vs features) ++ drop end_at body) (sym all_keys) (sym all_values);
       canonical_is =
-          cuts ∙ regroup head own (spelled (map key_field own_keys)) (spelled (map value_field own_values) ++ drop extent_at body)
-          ∙ ap (λ r. head ++ (own ++ (spelled (map key_field own_keys) ++ (spelled (map value_field own_values) ++ r)))) last
-          ∙ ap₂ (λ ks vs. head ++ (own ++ (spelled (map key_field ks) ++ (spelled (map value_field vs) ++ spelled (extent_fields extent)))))
-          (sym from.keys_are) (sym from.values_are)
-          ∙ ap (λ fs. head ++ (spelled fs ++ (spelled (map key_field (keys_of features))
-          ++ (spelled (map value_field (values_of features)) ++ spelled (extent_fields extent))))) stays
-          ∙ sym (parts_spelled name (map (feature_field (keys_of features) (values_of features)) features)
-          (map key_field (keys_of features))
-          (map value_field (values_of features)) extent);
+          cuts ∙ append_assoc own (spelled (map key_field own_keys)) (spelled (map value_field own_values))
+          ∙ ap₂ (λ ks vs. own ++ (spelled (map key_field ks) ++ spelled (map value_field vs))) (sym from.keys_are) (sym from.values_are)
+          ∙ ap (λ fs. spelled fs ++ (spelled (map key_field (keys_of features)) ++ spelled (map value_field (values_of features)))) stays
+          ∙ sym (parts_spelled (map (feature_field (keys_of features) (values_of features)) features)
+          (map key_field (keys_of features)) (map value_field (values_of features)));
       told = from.told;
     }
   where
-    regroup : (n f k r : List ℕ) → (n ++ (f ++ k)) ++ r ≡ n ++ (f ++ (k ++ r))
-    regroup n f k r = simp append_assoc
+    regroup : (f k v d : List ℕ) → f ++ (k ++ (v ++ d)) ≡ (f ++ (k ++ v)) ++ d
+    regroup f k v d = simp append_assoc
 
-pub read_is : (WereTold : List Feature → Type 0) (body name : List ℕ)
-    (features_at keys_at values_at extent_at keys_end values_end extent : ℕ) (keys : List (List ℕ))
-    (texts payloads : List (Bor (List ℕ))) (used : ℕ × ℕ) → IsRead WereTold body features_at keys_at values_at extent_at keys payloads used
-    → body ≡ short_field NAME (bytes name) ++ drop features_at body → IsUtf8 name → AreKeysFrom body keys_at keys values_at
-    → lent texts ≡ keys
-    → extent_at ≤ length body → drop extent_at body ≡ short_field EXTENT (varint extent) → extent < 2 ^ 32
+pub read_is : (WereTold : List Feature → Type 0) (body : List ℕ) (features_at keys_at values_at end_at keys_end values_end : ℕ)
+    (keys : List (List ℕ))
+    (texts payloads : List (Bor (List ℕ))) (used : ℕ × ℕ) → IsRead WereTold body features_at keys_at values_at end_at keys payloads used
+    → features_at ≤ length body → AreKeysFrom body keys_at keys values_at → lent texts ≡ keys → end_at ≤ length body
     → keys_end + length (spelled (map (lent_field KEYS) (drop used.0 texts))) ≡ values_at
-    → values_end + length (spelled (map (lent_field VALUES) (drop used.1 payloads))) ≡ extent_at
-    → IsBodyOf WereTold body name (take keys_end body ++ (take (values_end - values_at) (drop values_at body) ++ drop extent_at body))
-read_is WereTold body name features_at keys_at values_at extent_at keys_end values_end extent keys texts payloads used read named text
-    (keys_within, keys_are, _) texts_are within ends small keys_end_is values_end_is =
+    → values_end + length (spelled (map (lent_field VALUES) (drop used.1 payloads))) ≡ end_at
+    → IsCoreOf WereTold body features_at end_at
+    (take (keys_end - features_at) (drop features_at body) ++ take (values_end - values_at) (drop values_at body))
+read_is WereTold body features_at keys_at values_at end_at keys_end values_end keys texts payloads used read start_within
+    (keys_within, keys_are, _) texts_are within keys_end_is values_end_is =
     let unused_keys : map (lent_field KEYS) (drop used.0 texts) ≡ map key_field (drop used.0 keys) =
     keys_as_lent (drop used.0 texts) (drop used.0 keys) (sym (drop-map (λ (b : Bor (List ℕ)). b.now) used.0 texts)
     ∙ ap (drop used.0) texts_are) in
     let unused_values : map (lent_field VALUES) (drop used.1 payloads) ≡ map value_field (drop used.1 read.values) =
     values_as_lent (drop used.1 payloads) (drop used.1 read.values)
     (sym (drop-map (λ (b : Bor (List ℕ)). b.now) used.1 payloads) ∙ ap (drop used.1) read.are ∙ drop-map value_bytes used.1 read.values) in
-    body_is WereTold body name features_at keys_at values_at extent_at keys_end values_end extent keys read.values used named text
-    read.from keys_are
-    keys_within read.fields within ends small
+    core_is WereTold body features_at keys_at values_at end_at keys_end values_end keys read.values used read.from start_within keys_are
+    keys_within read.fields within
     (ap (λ fs. keys_end + length (spelled fs)) (sym unused_keys) ∙ keys_end_is)
     (ap (λ fs. values_end + length (spelled fs)) (sym unused_values) ∙ values_end_is)
 
--- the version
-pub version_field : short_field VERSION (varint 2) ≡ 120 ∷ (2 ∷ [])
-unfolding short_field short short_within
-version_field = refl
-
-canonical_from : (layer : ALayer) → canonical_item (Layer layer) ≡ short_field VERSION (varint 2) ++ spelled (body_fields layer)
-unfolding canonical_item
-canonical_from layer = refl
-
-canonical_body : (layer : ALayer) (body : List ℕ) → body ≡ spelled (body_fields layer) → canonical_item (Layer layer) ≡ 120 ∷ (2 ∷ body)
-canonical_body layer body is = canonical_from layer ∙ ap₂ (λ v b. v ++ b) version_field (sym is)
-
-with_version : (keys : List (List ℕ)) (values : List Value) (layer : ALayer)
-    → spelled (fields_with keys values layer) ≡ short_field VERSION (varint 2) ++ spelled (body_with keys values layer)
-with_version keys values layer = refl
-
--- a body that has as many bytes as its canonical fields is these
+-- what has as many bytes as the canonical fields is these
 nothing : {X : Type 0} → (xs : List X) → length xs ≡ 0 → xs ≡ []
 nothing [] none = refl
 nothing (x ∷ xs) none = absurd (omega (arith, none))
 
-whole_body : (WereTold : List Feature → Type 0) (body name canonical : List ℕ) → IsBodyOf WereTold body name canonical
-    → length canonical ≡ length body → canonical ≡ body
-whole_body WereTold body name canonical is same =
-    let layer = is.layer in
-    let head = short_field NAME (bytes layer.name) in
-    let own = spelled (own_fields layer) in
-    let k = spelled (map key_field (keys_of layer.features)) in
+whole_core : (WereTold : List Feature → Type 0) (body : List ℕ) (start end : ℕ) (canonical : List ℕ)
+    (is : IsCoreOf WereTold body start end canonical) → start ≤ length body → end ≤ length body → start + length canonical ≡ end
+    → canonical ≡ spelled (core_with (keys_of is.features ++ is.more_keys) (values_of is.features ++ is.more_values) is.features)
+whole_core WereTold body start end canonical is start_within within same =
+    let features = is.features in
+    let keys = keys_of features ++ is.more_keys in
+    let values = values_of features ++ is.more_values in
+    let own = spelled (map (feature_field (keys_of features) (values_of features)) features) in
+    let k = spelled (map key_field (keys_of features)) in
     let more_k = spelled (map key_field is.more_keys) in
-    let v = spelled (map value_field (values_of layer.features)) in
+    let v = spelled (map value_field (values_of features)) in
     let more_v = spelled (map value_field is.more_values) in
-    let e = spelled (extent_fields layer.extent) in
-    let keys_are : spelled (map key_field (keys_of layer.features ++ is.more_keys)) ≡ k ++ more_k =
-    ap spelled (map-append key_field (keys_of layer.features) is.more_keys)
-    ∙ spelled_parts (map key_field (keys_of layer.features)) (map key_field is.more_keys) in
-    let values_are : spelled (map value_field (values_of layer.features ++ is.more_values)) ≡ v ++ more_v =
-    ap spelled (map-append value_field (values_of layer.features) is.more_values)
-    ∙ spelled_parts (map value_field (values_of layer.features)) (map value_field is.more_values) in
-    let whole : body ≡ head ++ (own ++ ((k ++ more_k) ++ ((v ++ more_v) ++ e))) =
-    is.body_is
-    ∙ parts_spelled layer.name (map (feature_field (keys_of layer.features ++ is.more_keys) (values_of layer.features ++ is.more_values))
-    layer.features)
-    (map key_field (keys_of layer.features ++ is.more_keys)) (map value_field (values_of layer.features ++ is.more_values)) layer.extent
-    ∙ ap (λ fs. head ++ (spelled fs ++ (spelled (map key_field (keys_of layer.features ++ is.more_keys))
-    ++ (spelled (map value_field (values_of layer.features ++ is.more_values)) ++ e))))
-    (features_stay layer.features is.more_keys is.more_values)
-    ∙ ap₂ (λ ks vs. head ++ (own ++ (ks ++ (vs ++ e)))) keys_are values_are in
-    let front : canonical ≡ head ++ (own ++ (k ++ (v ++ e))) =
-    is.canonical_is
-    ∙ parts_spelled layer.name (own_fields layer) (map key_field (keys_of layer.features)) (map value_field (values_of layer.features))
-    layer.extent in
-    let sizes = lengths head own k more_k v more_v e in
-    let none_k : more_k ≡ [] = nothing more_k (omega (arith, same, ap length whole, ap length front, sizes.0, sizes.1)) in
-    let none_v : more_v ≡ [] = nothing more_v (omega (arith, same, ap length whole, ap length front, sizes.0, sizes.1)) in
+    let keys_are : spelled (map key_field keys) ≡ k ++ more_k =
+    ap spelled (map-append key_field (keys_of features) is.more_keys)
+    ∙ spelled_parts (map key_field (keys_of features)) (map key_field is.more_keys) in
+    let values_are : spelled (map value_field values) ≡ v ++ more_v =
+    ap spelled (map-append value_field (values_of features) is.more_values)
+    ∙ spelled_parts (map value_field (values_of features)) (map value_field is.more_values) in
+    let whole : spelled (core_with keys values features) ≡ own ++ ((k ++ more_k) ++ (v ++ more_v)) =
+    parts_spelled (map (feature_field keys values) features) (map key_field keys) (map value_field values)
+    ∙ ap (λ fs. spelled fs ++ (spelled (map key_field keys) ++ spelled (map value_field values)))
+    (features_stay features is.more_keys is.more_values)
+    ∙ ap₂ (λ ks vs. own ++ (ks ++ vs)) keys_are values_are in
+    let front : canonical ≡ own ++ (k ++ v) =
+    is.canonical_is ∙ parts_spelled (map (feature_field (keys_of features) (values_of features)) features)
+    (map key_field (keys_of features)) (map value_field (values_of features)) in
+    let sizes = lengths own k more_k v more_v in
+    let all_size = fields_end body (spelled (core_with keys values features)) start end is.stand start_within within in
+    let none_k : more_k ≡ [] = nothing more_k (omega (arith, same, all_size, ap length whole, ap length front, sizes.0, sizes.1)) in
+    let none_v : more_v ≡ [] = nothing more_v (omega (arith, same, all_size, ap length whole, ap length front, sizes.0, sizes.1)) in
     front
-    ∙ sym (whole ∙ ap₂ (λ ks vs. head ++ (own ++ ((k ++ ks) ++ ((v ++ vs) ++ e)))) none_k none_v
-    ∙ ap₂ (λ ks vs. head ++ (own ++ (ks ++ (vs ++ e)))) (append-nil k) (append-nil v))
+    ∙ sym (whole ∙ ap₂ (λ ks vs. own ++ ((k ++ ks) ++ (v ++ vs))) none_k none_v
+    ∙ ap₂ (λ ks vs. own ++ (ks ++ vs)) (append-nil k) (append-nil v))
   where
-    lengths : (h o k mk v mv e : List ℕ)
-        → (length (h ++ (o ++ ((k ++ mk) ++ ((v ++ mv) ++ e))))
-        ≡ length h + (length o + ((length k + length mk) + ((length v + length mv) + length e))))
-        × (length (h ++ (o ++ (k ++ (v ++ e)))) ≡ length h + (length o + (length k + (length v + length e))))
-    lengths h o k mk v mv e = (simp length-append, simp length-append)
+    lengths : (o k mk v mv : List ℕ)
+        → (length (o ++ ((k ++ mk) ++ (v ++ mv))) ≡ length o + ((length k + length mk) + (length v + length mv)))
+        × (length (o ++ (k ++ v)) ≡ length o + (length k + length v))
+    lengths o k mk v mv = (simp length-append, simp length-append)
 
--- a payload that the version begins
-item_in_front : (WereTold : List Feature → Type 0) (payload name body canonical : List ℕ) → length payload ≤ LIMIT
-    → payload ≡ 120 ∷ (2 ∷ body) → (is : IsBodyOf WereTold body name canonical) → IsItem payload (Layer is.layer)
-item_in_front WereTold payload name body canonical few front is =
-    let layer = is.layer in
-    let keys = keys_of layer.features ++ is.more_keys in
-    let values = values_of layer.features ++ is.more_values in
-    let same : payload ≡ spelled (fields_with keys values layer) =
-    front ∙ ap₂ (λ v b. v ++ b) (sym version_field) is.body_is ∙ sym (with_version keys values layer) in
-    subst (λ b. IsItem b (Layer layer)) (sym same)
-    (layer_longer layer is.more_keys is.more_values is.valid is.texts is.valid_values (omega (arith, ap length same)))
+-- the version and the name
+version_field : short_field VERSION (varint 2) ≡ 120 ∷ (2 ∷ [])
+unfolding short_field short short_within
+version_field = refl
 
-pub canonical_is : (WereTold : List Feature → Type 0) (payload name body canonical : List ℕ) → length payload ≤ LIMIT
-    → payload ≡ 120 ∷ (2 ∷ body) → IsBodyOf WereTold body name canonical → length canonical ≡ length body
-    → IsCanonicalLayer WereTold payload name
-unfolding ValidItem
-canonical_is WereTold payload name body canonical few front is same = (
-  is.layer,
-  item_in_front WereTold payload name body canonical few front is,
-  is.valid,
-  is.name_is,
-  canonical_body is.layer canonical is.canonical_is
-      ∙ ap (λ b. 120 ∷ (2 ∷ b)) (whole_body WereTold body name canonical is same) ∙ sym front,
-  is.told,
-)
+pub head_is : (body name : List ℕ) (after : ℕ) → body ≡ 120 ∷ (2 ∷ drop 2 body)
+    → drop 2 body ≡ short_field NAME (bytes name) ++ drop after body → body ≡ spelled (head_fields name) ++ drop after body
+head_is body name after begins named =
+    begins ∙ ap (λ r. 120 ∷ (2 ∷ r)) named
+    ∙ sym (ap₂ (λ v n. (v ++ n) ++ drop after body) version_field (append-nil (short_field NAME (bytes name))))
 
-pub copied_is : (WereTold : List Feature → Type 0) (payload name body canonical : List ℕ) → length payload ≤ LIMIT
-    → HasBody payload body → IsBodyOf WereTold body name canonical → IsCopied payload name canonical
-unfolding ValidItem
-copied_is WereTold payload name body canonical few (inl front) is = (
-  is.layer,
-  item_in_front WereTold payload name body canonical few front is,
-  is.valid,
-  is.name_is,
-  canonical_body is.layer canonical is.canonical_is,
-)
-copied_is WereTold payload name body canonical few (inr behind) is =
-    let layer = is.layer in
-    let keys = keys_of layer.features ++ is.more_keys in
-    let values = values_of layer.features ++ is.more_values in
-    let same : payload ≡ spelled (body_with keys values layer) ++ short_field VERSION (varint 2) =
-    behind ∙ ap₂ (λ b v. b ++ v) is.body_is (sym version_field) in
-    let size : length (spelled (fields_with keys values layer)) ≡ length payload =
-    ap length (with_version keys values layer) ∙ length-append (short_field VERSION (varint 2)) (spelled (body_with keys values layer))
-    ∙ omega arith ∙ sym (ap length same ∙ length-append (spelled (body_with keys values layer)) (short_field VERSION (varint 2))) in (
-      layer,
-      subst (λ b. IsItem b (Layer layer)) (sym same)
-          (layer_moved layer is.more_keys is.more_values is.valid is.texts is.valid_values (omega (arith, size))),
-      is.valid,
-      is.name_is,
-      canonical_body layer canonical is.canonical_is,
-    )
+-- the canonical payload of a layer
+canonical_from : (layer : ALayer) (core : List ℕ)
+    → core ≡ spelled (core_with (keys_of layer.features) (values_of layer.features) layer.features)
+    → canonical_item (Layer layer) ≡ spelled (head_fields layer.name) ++ (core ++ spelled (extent_fields layer.extent))
+unfolding canonical_item
+canonical_from layer core is =
+    let own = core_with (keys_of layer.features) (values_of layer.features) layer.features in
+    layer_parts (keys_of layer.features) (values_of layer.features) layer
+    ∙ spelled_parts (head_fields layer.name) (own ++ extent_fields layer.extent)
+    ∙ ap (λ r. spelled (head_fields layer.name) ++ r)
+    (spelled_parts own (extent_fields layer.extent) ∙ ap (λ c. c ++ spelled (extent_fields layer.extent)) (sym is))
+
+-- what stands around such a core makes it a layer
+module _ (WereTold : List Feature → Type 0) (body name : List ℕ) (extent start end : ℕ) (canonical : List ℕ) (few : length body ≤ LIMIT)
+    (around : IsAround body name extent start end) (is : IsCoreOf WereTold body start end canonical) where
+  abbrev the_layer : ALayer
+  the_layer = record { name = name; extent = extent; features = is.features }
+
+  valid_layer : ValidItem (Layer the_layer)
+  unfolding ValidItem ValidLayer
+  valid_layer = (around.text, around.small, is.valid)
+
+  item : IsItem body (Layer the_layer)
+  unfolding ValidLayer
+  item =
+      let core = core_with (keys_of is.features ++ is.more_keys) (values_of is.features ++ is.more_values) is.features in
+      let whole : body ≡ spelled (around.head ++ (core ++ around.tail)) =
+      around.begins ∙ ap (λ r. spelled around.head ++ r) (is.stand ∙ ap (λ r. spelled core ++ r) around.ends
+      ∙ sym (spelled_parts core around.tail)) ∙ sym (spelled_parts around.head (core ++ around.tail)) in
+      layer_around the_layer is.more_keys is.more_values around.head around.tail body (around.text, around.small, is.valid) is.texts
+      is.valid_values whole (omega (arith, few)) around.head_fit around.tail_fit around.alike
+
+  pub copied_is : IsCopied body name (spelled (head_fields name) ++ (canonical ++ spelled (extent_fields extent)))
+  copied_is = (the_layer, item, valid_layer, refl, canonical_from the_layer canonical is.canonical_is)
+
+  pub canonical_is : body ≡ spelled (head_fields name) ++ drop start body → drop end body ≡ spelled (extent_fields extent)
+      → start ≤ length body → end ≤ length body → start + length canonical ≡ end → IsCanonicalLayer WereTold body name
+  canonical_is front behind start_within within same = (
+    the_layer,
+    item,
+    valid_layer,
+    refl,
+    canonical_from the_layer canonical is.canonical_is
+        ∙ ap (λ r. spelled (head_fields name) ++ r)
+        (ap₂ (λ c e. c ++ e) (whole_core WereTold body start end canonical is start_within within same) (sym behind)
+        ∙ sym is.stand) ∙ sym front,
+    is.told,
+  )

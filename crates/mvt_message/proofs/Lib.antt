@@ -1,5 +1,6 @@
 pub mod MessageLaws
 mod ChainLemmas
+mod AroundLemmas
 mod CopyingLemmas
 mod SaidLemmas
 mod FormLemmas

@@ -1,5 +1,5 @@
 -- A layer of which the first features are canonical, and the others are made so one after the other.
-use Rattle.std.proofs.Common.{◌≡◌, ℕ, ◌+◌, ◌-◌, ◌^◌, ◌<◌, ◌≤◌, List, [], ◌∷◌, ◌++◌, length, map, take, drop, get_or, Bor, inl, inr, refl, sym, ap, ap₂, subst, ◌∙◌, arith, append-nil, length-append, IsTrue, false}
+use Rattle.std.proofs.Common.{◌≡◌, ℕ, ◌+◌, ◌-◌, ◌^◌, ◌<◌, ◌≤◌, List, [], ◌∷◌, ◌++◌, length, map, take, drop, get_or, Bor, refl, sym, ap, ap₂, subst, ◌∙◌, arith, append_assoc, length-append, IsTrue, false}
 use Rattle.std.proofs.lemmas.List.{length-drop, map-append, take_more, take-append-drop}
 use Rattle.std.proofs.Math.Seq.{take-append_seam}
 use Rattle.std.specs.Prelude.{IsUtf8}
@@ -12,8 +12,8 @@ use Rattle.mvt_attrs.specs.FirstUse.{AreDistinct}
 use Rattle.mvt_attrs.specs.FirstUses.{lent}
 use Rattle.mvt_attrs.specs.TagPlaces.{IsIn}
 use Rattle.mvt_attrs.specs.Using.{HasUses, used_of}
-use Rattle.mvt_wire.specs.Field.{bytes, varint, Entry}
-use Rattle.mvt_wire.specs.Spelling.{Plain, short_field, spelled}
+use Rattle.mvt_wire.specs.Field.{bytes, Entry}
+use Rattle.mvt_wire.specs.Spelling.{short_field, spelled}
 use Rattle.mvt_feature.specs.declared.feature.Feature.{Feature}
 use Rattle.mvt_feature.specs.Canonical.{plain, value_fields}
 use Rattle.mvt_feature.specs.Copying.{AreReady}
@@ -21,23 +21,24 @@ use Rattle.mvt_feature.specs.Features.{IsFeatureOf}
 use Rattle.mvt_feature.specs.Ranges.{AreBytes}
 use Rattle.mvt_feature.specs.Valid.{ValidFeature, ValidValue}
 use Rattle.mvt_feature.specs.Values.{IsValueOf}
-use Rattle.mvt_wire.proofs.WireLaws.{short_lengths_bytes}
+use Rattle.mvt_wire.proofs.WireLaws.{short_lengths_bytes, spelled_parts}
 use Rattle.mvt_feature.proofs.FeatureLaws.{canonical_reads_value, value_or_fault_once}
 use Rattle.mvt_message.specs.declared.layer_copying.Front.{Front}
 use Rattle.mvt_message.specs.declared.layer_copying.Part.{Part}
 use Rattle.mvt_message.specs.declared.item.Layer.{Layer as ALayer}
 use Rattle.mvt_message.specs.declared.item.Item.TheVariants.{Layer}
 use Rattle.mvt_message.specs.declared.layer_writer.LayerWriter.{LayerWriter}
-use Rattle.mvt_message.specs.declared.numbers.layer.TheConstants.{NAME, FEATURES, KEYS, VALUES, EXTENT, VERSION}
-use Rattle.mvt_message.specs.CanonicalItems.{keys_of, values_of, canonical_item, head_fields, feature_field, key_field, value_field, extent_fields}
-use Rattle.mvt_message.specs.Copying.{AreFeaturesFrom, HasBody, IsFrontOf}
+use Rattle.mvt_message.specs.declared.numbers.layer.TheConstants.{FEATURES, KEYS, VALUES}
+use Rattle.mvt_message.specs.CanonicalItems.{keys_of, values_of, canonical_item, head_fields, feature_field, key_field, value_field}
+use Rattle.mvt_message.specs.Around.{IsAround}
+use Rattle.mvt_message.specs.Copying.{AreFeaturesFrom, IsFrontOf}
 use Rattle.mvt_message.specs.Items.{IsItem}
 use Rattle.mvt_message.specs.LayerFields.{bytes_of}
 use Rattle.mvt_message.specs.Resuming.{payload_field, AreFeaturesRead, AreHeld, IsPartOf, IsWrittenUpTo}
 use Rattle.mvt_message.specs.Rewriting.{AreWritten, HasWritten, tail_of}
 use Rattle.mvt_message.specs.ValidItems.{ValidItem}
-use Rattle.mvt_message.proofs.CanonicalLemmas.{feature_bytes, count_bytes, features_read, more_enough, rest_by, fields_by, item_in_place, item_moved}
-use Rattle.mvt_message.proofs.CopyingLemmas.{all_dropped, features_stay, keys_are_from, mapped_more, parts_spelled, ready_values, told_weaker, values_apart, version_field}
+use Rattle.mvt_message.proofs.CanonicalLemmas.{feature_bytes, count_bytes, features_read, more_enough, core_by, item_around}
+use Rattle.mvt_message.proofs.CopyingLemmas.{all_dropped, features_stay, keys_are_from, mapped_more, parts_spelled, ready_values, told_weaker, values_apart}
 use Rattle.mvt_message.proofs.PoolLemmas.{keys_front, values_front}
 use Rattle.mvt_message.proofs.RewriteLemmas.{layer_rewritten}
 use Rattle.mvt_message.proofs.ValidLemmas.{item_valid}
@@ -73,7 +74,7 @@ part_within body fields rest start is =
 module _ (body : List ℕ) (front : Front) (held : List Value) (small : length body ≤ LIMIT) (are : AreHeld body front held) where
   held_within : length (spelled (map value_field held)) ≤ LIMIT
   held_within =
-      let within = part_within body (spelled (map value_field held)) (drop front.extent_at body) front.values_at are.fields in
+      let within = part_within body (spelled (map value_field held)) (drop front.end_at body) front.values_at are.fields in
       omega (arith, within, small)
 
   pub values_are_held : (read : List Value) → AreRelated IsValueOf (lent front.values.items) read → read ≡ held
@@ -224,27 +225,29 @@ read_more keys held body start at after old new payload read front f is written 
 }
 
 -- the layer whose features were all written
-module _ (payload body : List ℕ) (part : Part) (w : LayerWriter) (few : length payload ≤ LIMIT) (is : IsPartOf body part)
+module _ (body : List ℕ) (part : Part) (w : LayerWriter) (few : length body ≤ LIMIT) (is : IsPartOf body part)
     (written : IsWrittenUpTo body part part.front.keys_at w) where
-  abbrev rest : List Plain
-  rest = rest_by (λ p. p) written.read.payloads part.keys.items written.held part.name.now part.front.extent
-
   abbrev made : ALayer
-  made = record { name = part.name.now; extent = part.front.extent; features = written.read.features }
+  made = record { name = part.name.now; extent = part.extent; features = written.read.features }
 
-  whole : body ≡ spelled rest
+  whole : body ≡ spelled (is.around.head ++ (core_by (λ p. p) written.read.payloads part.keys.items written.held ++ is.around.tail))
   whole =
       let front = part.front in
       let keys = part.keys.items in
-      let name = part.name.now in
+      let own = map payload_field written.read.payloads in
+      let key_part = map key_field keys in
+      let value_part = map value_field written.held in
       let key_fields = keys_are_from body front.keys_at front.values_at front.keys.items keys is.is_front.keys is.keys_are is.texts in
-      let last : drop front.extent_at body ≡ spelled (extent_fields front.extent) =
-      is.is_front.ends ∙ sym (append-nil (short_field EXTENT (varint front.extent))) in
-      is.named ∙ ap (λ r. short_field NAME (bytes name) ++ r)
-      (written.read.fields ∙ ap (λ r. spelled (map payload_field written.read.payloads) ++ r)
-      (key_fields.1 ∙ ap (λ r. spelled (map key_field keys) ++ r)
-      (written.held_are.fields ∙ ap (λ r. spelled (map value_field written.held) ++ r) last)))
-      ∙ sym (parts_spelled name (map payload_field written.read.payloads) (map key_field keys) (map value_field written.held) front.extent)
+      let stand : drop part.features_at body ≡ spelled (own ++ (key_part ++ value_part)) ++ drop front.end_at body =
+      written.read.fields ∙ ap (λ r. spelled own ++ r) (key_fields.1 ∙ ap (λ r. spelled key_part ++ r) written.held_are.fields)
+      ∙ regroup (spelled own) (spelled key_part) (spelled value_part) (drop front.end_at body)
+      ∙ ap (λ l. l ++ drop front.end_at body) (sym (parts_spelled own key_part value_part)) in
+      let core = own ++ (key_part ++ value_part) in
+      is.around.begins ∙ ap (λ r. spelled is.around.head ++ r) (stand ∙ ap (λ r. spelled core ++ r) is.around.ends
+      ∙ sym (spelled_parts core is.around.tail)) ∙ sym (spelled_parts is.around.head (core ++ is.around.tail))
+    where
+      regroup : (f k v d : List ℕ) → f ++ (k ++ (v ++ d)) ≡ (f ++ (k ++ v)) ++ d
+      regroup f k v d = simp append_assoc
 
   features_held : (zs : List Entry) → map (λ (z : Entry). z.content) zs ≡ map (λ p. bytes p) written.read.payloads
       → AreRelated (λ (z : Entry) f. IsFeatureOf (bytes_of z.content) part.keys.items written.held f) zs written.read.features
@@ -252,52 +255,41 @@ module _ (payload body : List ℕ) (part : Part) (w : LayerWriter) (few : length
       held_features (λ p f. IsFeatureOf p part.keys.items written.held f) zs written.read.payloads written.read.features same
       written.read.are
 
-  item : HasBody payload body → IsItem payload (Layer made)
-  item (inl front) =
-      let same : payload ≡ spelled (fields_by (λ p. p) written.read.payloads part.keys.items written.held part.name.now part.front.extent) =
-      front ∙ ap₂ (λ v b. v ++ b) (sym version_field) whole in
-      subst (λ b. IsItem b (Layer made)) (sym same)
-      (item_in_place (λ p. p) written.read.payloads part.keys.items written.held made is.text is.is_front.small is.texts
-      written.held_are.valid
-      features_held (omega (arith, ap length same)))
-  item (inr behind) =
-      let same : payload ≡ spelled rest ++ short_field VERSION (varint 2) = behind ∙ ap₂ (λ b v. b ++ v) whole (sym version_field) in
-      let size = ap length same ∙ length-append (spelled rest) (short_field VERSION (varint 2)) in
-      let other = length-append (short_field VERSION (varint 2)) (spelled rest) in
-      subst (λ b. IsItem b (Layer made)) (sym same)
-      (item_moved (λ p. p) written.read.payloads part.keys.items written.held made is.text is.is_front.small is.texts written.held_are.valid
-      features_held (omega (arith, size, other)))
+  item : IsItem body (Layer made)
+  item =
+      item_around (λ p. p) written.read.payloads part.keys.items written.held made is.around.head is.around.tail body whole
+      (omega (arith, few)) is.around.head_fit is.around.tail_fit is.around.alike is.around.text is.around.small is.texts
+      written.held_are.valid features_held
 
-  pub layer_written : HasBody payload body → AreBytes payload
-      → (layer : ALayer) × IsItem payload (Layer layer) × ValidItem (Layer layer) × (part.name.now ≡ layer.name) × Unit {0}
-      × (canonical_item (Layer layer) ≡ spelled (head_fields part.name.now) ++ (w.features.items ++ tail_of w.uses part.front.extent))
-  layer_written has are_bytes = (
+  pub layer_written : AreBytes body
+      → (layer : ALayer) × IsItem body (Layer layer) × ValidItem (Layer layer) × (part.name.now ≡ layer.name) × Unit {0}
+      × (canonical_item (Layer layer) ≡ spelled (head_fields part.name.now) ++ (w.features.items ++ tail_of w.uses part.extent))
+  layer_written are_bytes = (
     made,
-    item has,
-    item_valid payload (Layer made) are_bytes (item has),
+    item,
+    item_valid body (Layer made) are_bytes item,
     refl,
     tt,
-    layer_rewritten made part.name.now part.front.extent w.uses w.features.items refl refl written.read.written.keys_are
+    layer_rewritten made part.name.now part.extent w.uses w.features.items refl refl written.read.written.keys_are
         written.read.written.values_are written.read.written.written,
   )
 
 -- a layer of which features were reached
 pub part_is : (WereTold : List Feature → Type 0) (body : List ℕ) (part : Part)
-    → body ≡ short_field NAME (bytes part.name.now) ++ drop part.features_at body
-    → IsUtf8 part.name.now → IsFrontOf body part.front → part.features_at ≤ length body → part.reached.at ≤ length body
+    → IsAround body part.name.now part.extent part.features_at part.front.end_at → IsFrontOf body part.front
+    → part.features_at ≤ length body → part.reached.at ≤ length body
     → part.keys.items ≡ lent part.front.keys.items → AllByRecursion IsUtf8 part.keys.items
     → ((held : List Value) → length held ≡ length part.front.values.items → AreReady part.keys.items held (0, 0)
     → AreFeaturesFrom WereTold body part.features_at part.keys.items held part.reached.at part.reached.used)
     → (part.front.is_apart ≡ false → part.reached.at ≡ part.features_at)
     → IsPartOf body part
-part_is WereTold body part named text is_front start_within at_within keys_are texts from none =
+part_is WereTold body part around is_front start_within at_within keys_are texts from none =
     let (within, (held, fields, valid, are)) = is_front.values in
     let ready = λ (apart : IsTrue part.front.is_apart).
     ready_values part.keys.items part.front.values.items held are (subst AreDistinct (sym keys_are) (is_front.keys_apart apart))
     (is_front.values_apart apart) texts valid in
     record {
-      named = named;
-      text = text;
+      around = around;
       is_front = is_front;
       start_within = start_within;
       at_within = at_within;

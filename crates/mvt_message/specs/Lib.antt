@@ -6,6 +6,7 @@ pub mod ValidItems
 pub mod PutErrors
 pub mod Visiting
 pub mod Resuming
+pub mod Around
 pub mod Rewriting
 pub mod Copying
 pub mod Inner

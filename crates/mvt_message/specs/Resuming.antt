@@ -1,15 +1,16 @@
 -- A layer of which the first features are canonical, while the others are made so.
-use Rattle.std.specs.Prelude.{◌≡◌, ℕ, ◌≤◌, List, ◌++◌, length, map, drop, IsTrue, IsUtf8, false}
+use Rattle.std.specs.Prelude.{◌≡◌, ℕ, ◌+◌, ◌≤◌, List, ◌++◌, length, map, drop, IsTrue, IsUtf8, false}
 use Rattle.std.specs.List.{AllByRecursion}
 use Rattle.mvt_base.specs.Related.{AreRelated}
 use Rattle.mvt_attrs.specs.declared.value.Value.{Value}
 use Rattle.mvt_attrs.specs.FirstUses.{lent}
 use Rattle.mvt_wire.specs.Field.{bytes}
-use Rattle.mvt_wire.specs.Spelling.{Plain, short_field, spelled}
+use Rattle.mvt_wire.specs.Spelling.{Plain, spelled}
 use Rattle.mvt_feature.specs.declared.feature.Feature.{Feature}
 use Rattle.mvt_feature.specs.Canonical.{plain, value_fields}
 use Rattle.mvt_feature.specs.Features.{IsFeatureOf}
 use Rattle.mvt_feature.specs.Valid.{ValidValue}
+use Rattle.mvt_message.specs.declared.layer_copying.Frame.{Frame}
 use Rattle.mvt_message.specs.declared.layer_copying.Front.{Front}
 use Rattle.mvt_message.specs.declared.layer_copying.Part.{Part}
 use Rattle.mvt_message.specs.declared.layer_copying.Seen.{Seen}
@@ -18,9 +19,10 @@ use Rattle.mvt_message.specs.declared.layer_copying.Known.{Known}
 use Rattle.mvt_message.specs.declared.layer_copying.Known.TheVariants.{Copied, Written}
 use Rattle.mvt_message.specs.declared.layer_rewriting.Rewritten.TheVariants.{Layer}
 use Rattle.mvt_message.specs.declared.layer_writer.LayerWriter.{LayerWriter}
-use Rattle.mvt_message.specs.declared.numbers.layer.TheConstants.{FEATURES, NAME}
+use Rattle.mvt_message.specs.declared.numbers.layer.TheConstants.{FEATURES}
 use Rattle.mvt_message.specs.CanonicalItems.{value_field}
-use Rattle.mvt_message.specs.Copying.{AreFeaturesFrom, IsBodyOf, IsCopied, IsFrontOf, copied_body}
+use Rattle.mvt_message.specs.Around.{IsAround}
+use Rattle.mvt_message.specs.Copying.{AreFeaturesFrom, IsCopied, IsCoreOf, IsFrontOf, copied_core, copied_payload}
 use Rattle.mvt_message.specs.Rewriting.{HasWritten, IsRewrittenAs}
 
 -- the field of a feature, of any payload
@@ -37,14 +39,13 @@ pub record AreFeaturesRead (keys : List (List ℕ)) (values : List Value) (body 
 
 -- the values of a front
 pub record AreHeld (body : List ℕ) (front : Front) (held : List Value) : Type 0 where
-  pub fields : drop front.values_at body ≡ spelled (map value_field held) ++ drop front.extent_at body
+  pub fields : drop front.values_at body ≡ spelled (map value_field held) ++ drop front.end_at body
   pub valid : AllByRecursion ValidValue held
   pub are : lent front.values.items ≡ map (λ (v : Value). spelled (value_fields v)) held
 
 -- a layer whose first features are canonical; none is taken where a key or a value may stand twice
 pub record IsPartOf (body : List ℕ) (part : Part) : Type 0 where
-  pub named : body ≡ short_field NAME (bytes part.name.now) ++ drop part.features_at body
-  pub text : IsUtf8 part.name.now
+  pub around : IsAround body part.name.now part.extent part.features_at part.front.end_at
   pub is_front : IsFrontOf body part.front
   pub start_within : part.features_at ≤ length body
   pub at_within : part.reached.at ≤ length body
@@ -62,21 +63,19 @@ pub record IsWrittenUpTo (body : List ℕ) (part : Part) (at : ℕ) (w : LayerWr
   pub held_are : AreHeld body part.front held
   pub read : AreFeaturesRead part.keys.items held body part.features_at at w
 
--- what is seen of a body, whose canonical features were told
-abbrev pub IsSeen : (List Feature → Type 0) → List ℕ → Seen → Type 0
-IsSeen WereTold body (All layer) = IsBodyOf WereTold body layer.name.now (copied_body layer)
-IsSeen WereTold body (First part) = IsPartOf body part
+-- what is seen of a body that has this frame, whose canonical features were told
+abbrev pub IsSeen : (List Feature → Type 0) → List ℕ → Frame → Seen → Type 0
+IsSeen WereTold body frame (All layer) =
+    IsCoreOf WereTold body frame.features_at frame.front.end_at (copied_core layer)
+    × (layer.name.now ≡ frame.name.now) × (layer.extent ≡ frame.extent)
+IsSeen WereTold body frame (First part) = IsPartOf body part
 
 -- what is copied is no longer than this
 abbrev pub IsSeenWithin : ℕ → Seen → Type 0
-IsSeenWithin most (All layer) = length (copied_body layer) ≤ most
+IsSeenWithin most (All layer) = length layer.front.now + length layer.values.now ≤ most
 IsSeenWithin most (First part) = Unit {0}
 
 -- the layer of a payload, made canonical
 abbrev pub IsKnown : List ℕ → Known → Type 0
-IsKnown payload (Copied layer) = IsCopied payload layer.name.now (copied_body layer)
+IsKnown payload (Copied layer) = IsCopied payload layer.name.now (copied_payload layer)
 IsKnown payload (Written layer) = IsRewrittenAs (λ _ _ _. Unit {0}) payload (Layer layer)
-
-abbrev pub IsKnownWithin : ℕ → Known → Type 0
-IsKnownWithin most (Copied layer) = length (copied_body layer) ≤ most
-IsKnownWithin most (Written layer) = Unit {0}

@@ -1,15 +1,20 @@
 //! A layer whose payload is canonical as it stands (Mapbox Vector Tile Specification 2.1, 4.1).
-ghost use Rattle.std.specs.Prelude.{◌≡◌, ◌≤◌, [], ◌∷◌, ◌++◌, List, length, IfOk, IfSome, OnOk};
+ghost use Rattle.std.specs.Prelude.{◌≡◌, ◌≤◌, ◌<◌, ◌^◌, [], ◌∷◌, ◌++◌, List, length, drop, IfOk, IfSome, IsTrue, IsUtf8, OnOk};
+ghost use Rattle.mvt_wire.specs.Spelling.{spelled};
 ghost use Rattle.mvt_feature.specs.declared.feature.Feature.{Feature as AFeature};
 ghost use Rattle.mvt_geometry.specs.Shape.{kind_of};
 ghost use Rattle.mvt_geometry.specs.Visiting.{HasDrawn};
 ghost use Rattle.mvt_message.specs.declared.item.Item.{Item};
-ghost use Rattle.mvt_message.specs.Copying.{IsCanonicalLayer};
+ghost use Rattle.mvt_message.specs.CanonicalItems.{extent_fields, head_fields};
+ghost use Rattle.mvt_message.specs.Copying.{IsCanonicalLayer, IsFrameOf, IsInPlace};
 
-use crate::layer_copying::layer_of_body;
+use crate::around::{may_end_with_extent, name_at};
+use crate::layer_copying::{Frame, Seen, bounds_of, end_of, front_of, seen_of};
+use crate::numbers::layer;
 use mvt_base::LIMIT;
 use mvt_feature::{FeatureFields, NotCanonical};
 use mvt_geometry::{GeometryVisitor, Ignore};
+use mvt_wire::short_number_at;
 use std::alloc::{AllocError, Global};
 
 /// What is told the features of a layer whose fields are canonical as they stand: the parts of each
@@ -55,22 +60,80 @@ pub fn visit_canonical<'a, V: CanonicalVisitor>(
     ensures { (items : List Item) → V.has_read items visitor.old [] → IfOk result
         (λ name. IsCanonicalLayer (V.has_read items visitor.new) payload.now name.now) }
 {
-    let Some(body) = behind_version(payload) else {
-        return Err(NotCanonical::Other);
-    };
-    let layer = layer_of_body(alloc, visitor, body)?;
-    if layer.front.len() + layer.values.len() + layer.extent.len() != body.len() {
-        return Err(NotCanonical::Other);
+    let frame = frame_in_place(alloc, payload)?;
+    let (features_at, end) = bounds_of(&frame);
+    match seen_of(alloc, visitor, payload, frame) {
+        Ok(Seen::All(layer)) => {
+            if features_at + layer.front.len() + layer.values.len() != end {
+                return Err(NotCanonical::Other);
+            }
+            Ok(layer.name)
+        }
+        Ok(Seen::First(_)) => Err(NotCanonical::Other),
+        Err(error) => Err(error),
     }
-    Ok(layer.name)
 }
 
-/// What stands behind a version of 2.
-fn behind_version(payload: &[u8]) -> Option<&[u8]>
-    ensures { IfSome result (λ body. payload.now ≡ 120 ∷ (2 ∷ body.now)) }
+/// The frame of a layer whose version, name and extent stand in the canonical order.
+fn frame_in_place(alloc: Global, payload: &[u8]) -> Result<Frame<'_>, NotCanonical>
+    ensures frame { IfOk result (IsFrameOf payload.now) }
+    ensures place { IfOk result (IsInPlace payload.now) }
+{
+    let Some((name, features_at)) = head_in_place(payload) else {
+        return Err(NotCanonical::Other);
+    };
+    if !may_end_with_extent(payload) {
+        return Err(NotCanonical::Other);
+    }
+    let front = front_of(alloc, payload, features_at)?;
+    let Some(extent) = extent_at_end(payload, end_of(&front)) else {
+        return Err(NotCanonical::Other);
+    };
+    Ok(Frame {
+        name,
+        extent,
+        features_at,
+        front,
+    })
+}
+
+/// The name behind a version of 2, and the offset after it.
+fn head_in_place(payload: &[u8]) -> Option<(&str, usize)>
+    ensures fields { IfSome result (λ f. payload.now
+        ≡ spelled (head_fields f.0.now) ++ drop f.1 payload.now) }
+    ensures text { IfSome result (λ f. IsUtf8 f.0.now) }
+    ensures short { IfSome result (λ f. length f.0.now < 2 ^ 63) }
+    ensures within { IfSome result (λ f. f.1 ≤ length payload.now) }
+{
+    if !begins_with_version(payload) {
+        return None;
+    }
+    let Some((name, after)) = name_at(payload, 2) else {
+        return None;
+    };
+    Some((name, after))
+}
+
+/// Whether a payload begins with a version of 2.
+fn begins_with_version(payload: &[u8]) -> bool
+    ensures { IsTrue result → payload.now ≡ 120 ∷ (2 ∷ drop 2 payload.now) }
 {
     match payload {
-        [0x78, 2, body @ ..] => Some(body),
-        _ => None,
+        [0x78, 2, ..] => true,
+        _ => false,
+    }
+}
+
+/// The extent that stands at an offset, and nothing behind it.
+fn extent_at_end(payload: &[u8], at: usize) -> Option<u32>
+    requires { at ≤ length payload.now }
+    ensures field { IfSome result (λ extent. drop at payload.now
+        ≡ spelled (extent_fields extent)) }
+    ensures small { IfSome result (λ extent. extent < 2 ^ 32) }
+{
+    match short_number_at(payload, at, layer::EXTENT) {
+        Some((extent, end)) if end == payload.len() && extent < 1 << 32 => Some(extent as u32),
+        Some(_) => None,
+        None => None,
     }
 }

@@ -1,18 +1,19 @@
-//! A layer that is canonical but for where its version stands, and for last keys and values that no
-//! feature uses (Mapbox Vector Tile Specification 2.1, 4.1).
+//! A layer that is canonical but for where its version, its name and its extent stand, and for last
+//! keys and values that no feature uses (Mapbox Vector Tile Specification 2.1, 4.1).
 ghost use Rattle.std.specs.Prelude.{◌≡◌, ◌≤◌, ◌<◌, ◌+◌, ◌-◌, ◌^◌, ◌==◌, ℕ, List, [], ◌++◌, length, map, drop, IfOk, IfSome, IsTrue, IsUtf8, false};
-ghost use Rattle.std.specs.List.{AllByRecursion, list_any};
+ghost use Rattle.std.specs.List.{AllByRecursion};
 ghost use Rattle.mvt_attrs.specs.declared.value.Value.{Value as AValue};
 ghost use Rattle.mvt_attrs.specs.FirstUse.{AreDistinct};
 ghost use Rattle.mvt_attrs.specs.FirstUses.{lent};
-ghost use Rattle.mvt_wire.specs.Field.{bytes, varint};
+ghost use Rattle.mvt_wire.specs.Field.{bytes};
 ghost use Rattle.mvt_wire.specs.Spelling.{short_field, spelled};
 ghost use Rattle.mvt_feature.specs.Copying.{AreReady, IsCanonicalValue};
 ghost use Rattle.mvt_message.specs.declared.item.Item.{Item};
-ghost use Rattle.mvt_message.specs.declared.numbers.layer.TheConstants.{NAME, KEYS, VALUES, EXTENT};
-ghost use Rattle.mvt_message.specs.Copying.{IsBodyOf, HasBody, AreFeaturesFrom, ArePayloadsFrom, AreValuesFrom, IsFrontOf, copied_body, lent_field};
-ghost use Rattle.mvt_message.specs.Resuming.{IsKnown, IsKnownWithin, IsSeen, IsSeenWithin};
+ghost use Rattle.mvt_message.specs.declared.numbers.layer.TheConstants.{KEYS, VALUES};
+ghost use Rattle.mvt_message.specs.Copying.{AreFeaturesFrom, ArePayloadsFrom, AreValuesFrom, IsFrameOf, IsFrontOf, lent_field};
+ghost use Rattle.mvt_message.specs.Resuming.{IsKnown, IsSeen, IsSeenWithin};
 
+use crate::around::{Around, around_from, may_be_whole, whole_of};
 use crate::canonical_layer::CanonicalVisitor;
 use crate::layer_rewriting::RewrittenLayer;
 use crate::looking::{counts_from, may_be_texts, may_begin_in_order};
@@ -22,59 +23,52 @@ use mvt_attrs::{LayerKeys, are_distinct};
 use mvt_base::{LIMIT, Text};
 use mvt_feature::{NotCanonical, Scratch, is_canonical_value, judge_canonical};
 use mvt_geometry::Ignore;
-use mvt_wire::{field_len, short_bytes_at, short_number_at};
+use mvt_wire::{field_len, short_bytes_at};
 use std::alloc::{AllocError, Global};
 use std::str;
 
-/// The tag of an extent, a varint; its number has five bytes at most.
-const EXTENT_TAG: u8 = 0x28;
-
-/// The field of version 2.
-pub(crate) const VERSION_FIELD: [u8; 2] = [0x78, 2];
-
-/// The name of such a layer, and the canonical fields besides its version as they stand. The keys
-/// and the values that no feature uses are left out, which are the last of each.
+/// The name and the extent of such a layer, and its canonical fields besides these and the version,
+/// as they stand. The keys and the values that no feature uses are left out, which are the last of
+/// each.
 #[derive(Clone, Copy)]
 pub(crate) struct CopiedLayer<'a> {
     pub(crate) name: &'a str,
-    /// The fields of the name, the features and the keys.
+    /// The fields of the features and the keys.
     pub(crate) front: &'a [u8],
     /// The fields of the values.
     pub(crate) values: &'a [u8],
-    pub(crate) extent: &'a [u8],
+    pub(crate) extent: u32,
 }
 
 /// A layer that is made canonical without another look at its first features.
 #[derive(Drop)]
 pub(crate) enum Known<'a> {
-    /// All its fields are canonical, but that its last keys and values may be unused, and the
-    /// version stands before or behind them.
+    /// Its features, keys and values are canonical, but that its last keys and values may be
+    /// unused.
     Copied(CopiedLayer<'a>),
     /// Its first features are: these were copied, and the others made anew.
     Written(RewrittenLayer<'a, Ignore>),
 }
 
-/// A layer of version 2 made canonical, where its fields stand in the canonical order, and its
-/// first features are canonical.
+/// A layer of version 2 made canonical, where its features, keys and values stand in the canonical
+/// order, and its first features are canonical. Its version, its name and its extent may stand in
+/// front of them or behind.
 ///
 /// # Errors
 ///
 /// Where it isn't such a layer, or isn't known to be; that says nothing of the payload.
 pub(crate) fn known_layer(alloc: Global, payload: &[u8]) -> Result<Known<'_>, NotCanonical>
     requires { length payload.now ≤ LIMIT }
-    ensures made { IfOk result (IsKnown payload.now) }
-    ensures within { IfOk result (IsKnownWithin LIMIT) }
+    ensures { IfOk result (IsKnown payload.now) }
 {
-    let Some(body) = body_of(payload) else {
-        return Err(NotCanonical::Other);
-    };
-    match seen_of(alloc, &mut Ignore, body) {
+    let frame = frame_of(alloc, payload)?;
+    match seen_of(alloc, &mut Ignore, payload, frame) {
         Ok(Seen::All(layer)) => Ok(Known::Copied(layer)),
         Ok(Seen::First(part)) => {
-            let writer = write_behind(alloc, body, &part)?;
+            let writer = write_behind(alloc, payload, &part)?;
             Ok(Known::Written(RewrittenLayer {
                 name: part.name,
-                extent: part.front.extent,
+                extent: part.extent,
                 writer,
                 visitor: Ignore,
             }))
@@ -83,40 +77,63 @@ pub(crate) fn known_layer(alloc: Global, payload: &[u8]) -> Result<Known<'_>, No
     }
 }
 
-/// What stands behind the version, or before it.
-fn body_of(payload: &[u8]) -> Option<&[u8]>
-    ensures { IfSome result (λ body. HasBody payload.now body.now) }
-{
-    match payload {
-        [0x78, 2, body @ ..] => Some(body),
-        [body @ .., 0x78, 2] => Some(body),
-        _ => None,
-    }
-}
-
-/// The layer that has these fields besides the version, where they can be copied. A visitor is told
-/// its features.
-pub(crate) fn layer_of_body<'a, V: CanonicalVisitor>(
-    alloc: Global,
-    visitor: &mut V,
-    body: &'a [u8],
-) -> Result<CopiedLayer<'a>, NotCanonical>
-    requires { length body.now ≤ LIMIT }
-    ensures body { (items : List Item) → V.has_read items visitor.old []
-        → IfOk result (λ l. IsBodyOf (V.has_read items visitor.new) body.now l.name.now
-        (copied_body l)) }
-    ensures within { IfOk result (λ l. length (copied_body l) ≤ length body.now) }
-{
-    match seen_of(alloc, visitor, body) {
-        Ok(Seen::All(layer)) => Ok(layer),
-        Ok(Seen::First(_)) => Err(NotCanonical::Other),
-        Err(error) => Err(error),
-    }
-}
-
-/// What is seen of a layer whose fields stand in the canonical order.
+/// A layer whose features haven't been looked at: its name and its extent, and where they and the
+/// keys and values stand.
 #[derive(Drop)]
-enum Seen<'a> {
+pub(crate) struct Frame<'a> {
+    pub(crate) name: &'a str,
+    pub(crate) extent: u32,
+    pub(crate) features_at: usize,
+    pub(crate) front: Front<'a>,
+}
+
+/// The offset after the values.
+pub(crate) fn end_of(front: &Front<'_>) -> usize
+    ensures { result ≡ front.now.end_at }
+{
+    front.end_at
+}
+
+/// Where the features, the keys and the values of a layer stand.
+pub(crate) fn bounds_of(frame: &Frame<'_>) -> (usize, usize)
+    ensures { result ≡ (frame.now.features_at, frame.now.front.end_at) }
+{
+    (frame.features_at, frame.front.end_at)
+}
+
+/// The frame of a layer whose version, name and extent stand in front of the others or behind them,
+/// in any order.
+fn frame_of(alloc: Global, body: &[u8]) -> Result<Frame<'_>, NotCanonical>
+    ensures { IfOk result (IsFrameOf body.now) }
+{
+    let nothing = Around {
+        has_version: false,
+        name: None,
+        extent: None,
+    };
+    let (head, features_at) = around_from(body, 0, &nothing);
+    if !may_be_whole(body, &head) {
+        return Err(NotCanonical::Other);
+    }
+    let front = front_of(alloc, body, features_at)?;
+    let (around, end) = around_from(body, end_of(&front), &head);
+    if end != body.len() {
+        return Err(NotCanonical::Other);
+    }
+    let Some((name, extent)) = whole_of(&around) else {
+        return Err(NotCanonical::Other);
+    };
+    Ok(Frame {
+        name,
+        extent,
+        features_at,
+        front,
+    })
+}
+
+/// What is seen of a layer whose features, keys and values stand in the canonical order.
+#[derive(Drop)]
+pub(crate) enum Seen<'a> {
     /// Its features are canonical.
     All(CopiedLayer<'a>),
     /// The first of them are.
@@ -127,13 +144,14 @@ enum Seen<'a> {
 #[derive(Drop)]
 pub(crate) struct Part<'a> {
     pub(crate) name: &'a str,
+    pub(crate) extent: u32,
     pub(crate) features_at: usize,
     pub(crate) front: Front<'a>,
     pub(crate) keys: Vec<Text>,
     pub(crate) reached: Reached,
 }
 
-/// The keys and the values of a layer, and where they stand. An extent ends its fields.
+/// The keys and the values of a layer, and where they stand.
 #[derive(Drop)]
 pub(crate) struct Front<'a> {
     /// Whether no key and no value stands twice, as far as is known.
@@ -142,8 +160,8 @@ pub(crate) struct Front<'a> {
     keys: Vec<&'a [u8]>,
     values_at: usize,
     pub(crate) values: Vec<&'a [u8]>,
-    extent_at: usize,
-    pub(crate) extent: u32,
+    /// The offset after the values.
+    pub(crate) end_at: usize,
 }
 
 /// How far the features of a layer are canonical.
@@ -157,25 +175,26 @@ pub(crate) struct Reached {
     is_whole: bool,
 }
 
-/// Looks at the fields of a layer besides its version. A visitor is told the features that are
+/// Looks at the features of a layer that has this frame. A visitor is told those that are
 /// canonical, and may be told some parts of one more.
-fn seen_of<'a, V: CanonicalVisitor>(
+pub(crate) fn seen_of<'a, V: CanonicalVisitor>(
     alloc: Global,
     visitor: &mut V,
     body: &'a [u8],
+    frame: Frame<'a>,
 ) -> Result<Seen<'a>, NotCanonical>
-    requires { length body.now ≤ LIMIT }
+    requires small { length body.now ≤ LIMIT }
+    requires frame { IsFrameOf body.now frame }
     ensures seen { (items : List Item) → V.has_read items visitor.old []
-        → IfOk result (IsSeen (V.has_read items visitor.new) body.now) }
+        → IfOk result (IsSeen (V.has_read items visitor.new) body.now frame.entry) }
     ensures within { IfOk result (IsSeenWithin (length body.now)) }
 {
-    if !may_end_with_extent(body) {
-        return Err(NotCanonical::Other);
-    }
-    let Some((name, features_at)) = name_from(body) else {
-        return Err(NotCanonical::Other);
-    };
-    let front = front_of(alloc, body, features_at)?;
+    let Frame {
+        name,
+        extent,
+        features_at,
+        front,
+    } = frame;
     let Some(keys) = texts_of(alloc, &front.keys)? else {
         return Err(NotCanonical::Other);
     };
@@ -183,6 +202,7 @@ fn seen_of<'a, V: CanonicalVisitor>(
     if !reached.is_whole {
         return Ok(Seen::First(Part {
             name,
+            extent,
             features_at,
             front,
             keys,
@@ -190,25 +210,25 @@ fn seen_of<'a, V: CanonicalVisitor>(
         }));
     }
     let keys_end = end_of_used(layer::KEYS, &front.keys, reached.used.0, front.values_at);
-    let values_end = end_of_used(
-        layer::VALUES,
-        &front.values,
-        reached.used.1,
-        front.extent_at,
-    );
+    let values_end = end_of_used(layer::VALUES, &front.values, reached.used.1, front.end_at);
     Ok(Seen::All(CopiedLayer {
         name,
-        front: &body[..keys_end],
+        front: &body[features_at..keys_end],
         values: &body[front.values_at..values_end],
-        extent: &body[front.extent_at..],
+        extent,
     }))
 }
 
 /// The front of a layer whose features begin at an offset. It costs little where the fields, or
 /// those of the first feature, stand in another order.
-fn front_of(alloc: Global, body: &[u8], features_at: usize) -> Result<Front<'_>, NotCanonical>
+pub(crate) fn front_of(
+    alloc: Global,
+    body: &[u8],
+    features_at: usize,
+) -> Result<Front<'_>, NotCanonical>
     requires { features_at ≤ length body.now }
-    ensures { IfOk result (IsFrontOf body.now) }
+    ensures front { IfOk result (IsFrontOf body.now) }
+    ensures behind { IfOk result (λ front. features_at ≤ front.keys_at) }
 {
     if !may_begin_in_order(body, features_at) {
         return Err(NotCanonical::Other);
@@ -221,48 +241,22 @@ fn front_of(alloc: Global, body: &[u8], features_at: usize) -> Result<Front<'_>,
     if !may_be_texts(&keys, body.len() - values_at) {
         return Err(NotCanonical::Other);
     }
-    let (values, extent_at) = values_from(alloc, body, values_at, counts.values)?;
-    let Some(extent) = extent_at_end(body, extent_at) else {
-        return Err(NotCanonical::Other);
-    };
+    let (values, end_at) = values_from(alloc, body, values_at, counts.values)?;
     Ok(Front {
         is_apart: are_apart(alloc, &keys, &values)?,
         keys_at,
         keys,
         values_at,
         values,
-        extent_at,
-        extent,
+        end_at,
     })
-}
-
-/// Whether the extent's tag stands among the last bytes, as it does where the extent is the last
-/// field. Programs that write no extent, or write it in front, are told by this before the keys and
-/// the values are read.
-fn may_end_with_extent(body: &[u8]) -> bool
-    ensures { result ≡ list_any (λ b. b == 40) (drop (length body.now - 6) body.now) }
-{
-    body[body.len().saturating_sub(6)..].contains(&EXTENT_TAG)
-}
-
-/// The name in front, and the offset after it.
-fn name_from(body: &[u8]) -> Option<(&str, usize)>
-    ensures field { IfSome result (λ f. body.now
-        ≡ short_field NAME (bytes f.0.now) ++ drop f.1 body.now) }
-    ensures text { IfSome result (λ f. IsUtf8 f.0.now) }
-    ensures within { IfSome result (λ f. f.1 ≤ length body.now) }
-{
-    let (bytes, after) = short_bytes_at(body, 0, layer::NAME)?;
-    match str::from_utf8(bytes) {
-        Ok(name) => Some((name, after)),
-        Err(_) => None,
-    }
 }
 
 /// The offset after the features, whatever they are.
 fn after_features(body: &[u8], start: usize) -> usize
     requires { start ≤ length body.now }
-    ensures { result ≤ length body.now }
+    ensures within { result ≤ length body.now }
+    ensures behind { start ≤ result }
 {
     let mut at = start;
     while let Some((_, after)) = short_bytes_at(body, at, layer::FEATURES) {
@@ -337,18 +331,6 @@ fn value_from(body: &[u8], at: usize) -> Option<(&[u8], usize)>
         return None;
     }
     Some((value, after))
-}
-
-/// The extent that stands at an offset, and nothing behind it.
-fn extent_at_end(body: &[u8], at: usize) -> Option<u32>
-    requires { at ≤ length body.now }
-    ensures { IfSome result (λ extent. drop at body.now ≡ short_field EXTENT (varint extent)) }
-{
-    match short_number_at(body, at, layer::EXTENT) {
-        Some((extent, end)) if end == body.len() && extent < 1 << 32 => Some(extent as u32),
-        Some(_) => None,
-        None => None,
-    }
 }
 
 /// Whether no key and no value stands twice. It may also say no for want of time.

@@ -275,7 +275,7 @@ fn put_values(out: &mut Vec<u8>, values: &[Value]) -> Result<(), AllocError>
 }
 
 /// Appends the extent.
-fn put_extent(out: &mut Vec<u8>, extent: u32) -> Result<(), AllocError>
+pub(crate) fn put_extent(out: &mut Vec<u8>, extent: u32) -> Result<(), AllocError>
     ensures ok { OnOk result (out.new.items ≡ out.old.items ++ spelled (extent_fields extent)) }
     ensures left { OnErr result (Extends out.old.items out.new.items) }
 {

@@ -2,6 +2,7 @@
 //! another as its bytes, read from a payload and written as one.
 #![tactic(auto)]
 
+mod around;
 mod canonical_layer;
 mod features;
 mod item;

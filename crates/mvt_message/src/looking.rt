@@ -6,6 +6,7 @@ ghost use Rattle.mvt_wire.specs.Spelling.{short_field};
 ghost use Rattle.mvt_feature.specs.declared.numbers.feature.TheConstants.{GEOMETRY};
 ghost use Rattle.mvt_message.specs.Copying.{AreFieldsFrom};
 
+use crate::around::{EXTENT_TAG, VERSION_TAG};
 use crate::numbers::{feature, layer};
 use mvt_attrs::are_distinct;
 use mvt_wire::{short_bytes_at, short_number_at};
@@ -36,35 +37,49 @@ pub(crate) struct Counts {
     pub(crate) values: usize,
 }
 
-/// Whether the fields of the first feature may stand in the canonical order, by its first bytes. It
-/// may not be there.
+/// Whether the fields of the first feature may stand in the canonical order, by its first bytes.
+/// Where there is none, only few bytes may follow: keys and values in front of features are more.
 pub(crate) fn may_begin_in_order(body: &[u8], features_at: usize) -> bool
     requires { features_at ≤ length body.now }
 {
     match short_bytes_at(body, features_at, layer::FEATURES) {
         Some((feature, _)) => may_be_in_order(feature),
-        None => true,
+        None => body.len() - features_at <= FEW_BYTES,
     }
 }
 
-/// Whether a feature begins with an id or with tags, or is a type and integers alone.
+/// Whether a feature begins with tags, or is a type and integers alone, behind an id if it has one.
 fn may_be_in_order(payload: &[u8]) -> bool
     ensures typed { (kind : ℕ) (rest : List ℕ) → payload.now ≡ 24 ∷ (kind ∷ rest)
         → IsTrue result → (integers : List ℕ) × (rest ≡ short_field GEOMETRY (bytes integers)) }
 {
     match payload {
+        [ID_TAG, ..] => match short_number_at(payload, 0, feature::ID) {
+            Some((_, after)) => may_go_on(&payload[after..]),
+            None => false,
+        },
+        _ => may_go_on(payload),
+    }
+}
+
+/// The same of what stands behind an id.
+fn may_go_on(fields: &[u8]) -> bool
+    ensures typed { (kind : ℕ) (rest : List ℕ) → fields.now ≡ 24 ∷ (kind ∷ rest)
+        → IsTrue result → (integers : List ℕ) × (rest ≡ short_field GEOMETRY (bytes integers)) }
+{
+    match fields {
         [TYPE_TAG, _, rest @ ..] => match short_bytes_at(rest, 0, feature::GEOMETRY) {
             Some((_, end)) => end == rest.len(),
             None => false,
         },
-        [first, ..] => *first == ID_TAG || *first == TAGS_TAG,
-        [] => false,
+        [TAGS_TAG, ..] => true,
+        _ => false,
     }
 }
 
-/// How many keys and values stand from an offset on, with the extent behind them. `None` where
-/// anything else does, there are many, or the first few of more aren't different. Where few bytes
-/// are left, they aren't looked at.
+/// How many keys and values stand from an offset on, with nothing but an extent or a version behind
+/// them. `None` where anything else does, there are many, or the first few of more aren't
+/// different. Where few bytes are left, they aren't looked at.
 pub(crate) fn counts_from(
     alloc: Global,
     body: &[u8],
@@ -79,8 +94,8 @@ pub(crate) fn counts_from(
         }));
     }
     let (keys, values_at) = fields_from(body, keys_at, layer::KEYS);
-    let (values, extent_at) = fields_from(body, values_at, layer::VALUES);
-    if short_number_at(body, extent_at, layer::EXTENT).is_none() {
+    let (values, end_at) = fields_from(body, values_at, layer::VALUES);
+    if !may_end_behind(body, end_at) {
         return Ok(None);
     }
     if keys.max(values) <= FIRST_COMPARED {
@@ -92,6 +107,17 @@ pub(crate) fn counts_from(
         return Ok(Some(Counts { keys, values }));
     }
     Ok(None)
+}
+
+/// Whether a payload ends at an offset, or an extent or a version may stand there.
+fn may_end_behind(body: &[u8], at: usize) -> bool
+    requires { at ≤ length body.now }
+    ensures { at ≡ length body.now → IsTrue result }
+{
+    match body.get(at) {
+        Some(tag) => *tag == EXTENT_TAG || *tag == VERSION_TAG,
+        None => true,
+    }
 }
 
 /// How many fields of this number stand from an offset on, up to a bound, and the offset after

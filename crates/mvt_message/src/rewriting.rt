@@ -8,14 +8,15 @@ ghost use Rattle.mvt_feature.specs.Faults.{fault_of};
 ghost use Rattle.mvt_message.specs.declared.item.Item.{Item};
 ghost use Rattle.mvt_wire.specs.Spelling.{spelled};
 ghost use Rattle.mvt_message.specs.CanonicalItems.{canonical_item, head_fields};
-ghost use Rattle.mvt_message.specs.Copying.{copied_body};
+ghost use Rattle.mvt_message.specs.Copying.{copied_payload};
 ghost use Rattle.mvt_message.specs.ItemRules.{item_fault};
 ghost use Rattle.mvt_message.specs.Items.{IsItem, names_in};
 ghost use Rattle.mvt_message.specs.Rewriting.{tail_of};
 ghost use Rattle.mvt_message.specs.ValidItems.{ValidItem};
 
-use crate::layer_copying::{CopiedLayer, Known, VERSION_FIELD, known_layer};
+use crate::layer_copying::{CopiedLayer, Known, known_layer};
 use crate::layer_rewriting::{Rewritten, RewrittenLayer, rewrite_parts};
+use crate::layer_writer::{put_extent, put_head};
 use crate::reading::judge_item;
 use mvt_base::LIMIT;
 use mvt_feature::{MessageError, NotCanonical};
@@ -53,7 +54,7 @@ pub fn rewrite_item<'a>(
 {
     match known_layer(alloc, payload) {
         Ok(Known::Copied(layer)) => {
-            append_copied_layer(out, &layer)?;
+            append_copied_layer(out, &layer, payload.len())?;
             Ok(Some(layer.name))
         }
         Ok(Known::Written(layer)) => {
@@ -70,18 +71,20 @@ pub fn rewrite_item<'a>(
     }
 }
 
-/// Appends the version, and the other fields of a layer as they stand.
-fn append_copied_layer(out: &mut Vec<u8>, layer: &CopiedLayer<'_>) -> Result<(), AllocError>
-    requires { length (copied_body layer.now) ≤ LIMIT }
-    ensures ok { OnOk result (out.new.items ≡ out.old.items ++ 120 ∷ (2 ∷ copied_body layer.now)) }
+/// Appends a layer whose features, keys and values are copied as they stand.
+fn append_copied_layer(
+    out: &mut Vec<u8>,
+    layer: &CopiedLayer<'_>,
+    bytes: usize,
+) -> Result<(), AllocError>
+    ensures ok { OnOk result (out.new.items ≡ out.old.items ++ copied_payload layer.now) }
     ensures left { OnErr result (Extends out.old.items out.new.items) }
 {
-    let len = layer.front.len() + layer.values.len() + layer.extent.len();
-    out.reserve(VERSION_FIELD.len() + len)?;
-    out.extend_from_slice(&VERSION_FIELD)?;
+    out.reserve(bytes)?;
+    put_head(out, layer.name)?;
     out.extend_from_slice(layer.front)?;
     out.extend_from_slice(layer.values)?;
-    out.extend_from_slice(layer.extent)
+    put_extent(out, layer.extent)
 }
 
 /// Appends the canonical parts of a layer, which rarely are more bytes than its payload has.

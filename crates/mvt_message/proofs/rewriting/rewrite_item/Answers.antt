@@ -4,10 +4,10 @@ use Rattle.mvt_message.proofs.rewriting.rewrite_item.Goals as goal
 
 pub returns-in_ok-append_copied_layer-in-Ok-Copied-clause-ok : goal.returns-in_ok-append_copied_layer-in-Ok-Copied-clause-ok
 returns-in_ok-append_copied_layer-in-Ok-Copied-clause-ok c =
-    let (layer, is, valid, name, canonical) = rw c.in-Ok-Copied.field-0-is at c.in-Ok-Copied.ensures.made in
+    let (layer, is, valid, name, canonical) = rw c.in-Ok-Copied.field-0-is at c.in-Ok-Copied.ensures in
     item_or_fault_clean c.args.payload.now c.args.payload_at c.args.tag_at (Layer layer) is
 
 pub returns-in_ok-append_written-in-Ok-Written-clause-ok : goal.returns-in_ok-append_written-in-Ok-Written-clause-ok
 returns-in_ok-append_written-in-Ok-Written-clause-ok c =
-    let (layer, is, valid, name, told, canonical) = rw c.in-Ok-Written.field-0-is at c.in-Ok-Written.ensures.made in
+    let (layer, is, valid, name, told, canonical) = rw c.in-Ok-Written.field-0-is at c.in-Ok-Written.ensures in
     item_or_fault_clean c.args.payload.now c.args.payload_at c.args.tag_at (Layer layer) is
