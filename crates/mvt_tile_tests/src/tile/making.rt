@@ -1,5 +1,7 @@
 //! Tiles by a seed: layers whose fields stand in the orders that programs write, with bytes
 //! changed.
+ghost use Rattle.std.specs.Prelude.{◌<◌};
+
 use std::alloc::{AllocError, Global};
 
 // SplitMix64, by Steele, Lea and Flood, "Fast splittable pseudorandom number generators".
@@ -21,7 +23,9 @@ impl Random {
     }
 
     // A number of this many.
-    pub(crate) fn below(&mut self, count: u8) -> u8 {
+    pub(crate) fn below(&mut self, count: u8) -> u8
+        ensures { result < 255 }
+    {
         (self.next() % u64::from(count.max(1))) as u8
     }
 }

@@ -19,6 +19,9 @@ fn expect_same(rt: &(impl Abort + AllocGlobal), input: &[u8]) -> bool {
             let canonical = encode(rt.alloc(), &tile).expect(rt, "bytes");
             let found = made.expect(rt, "bytes");
             expect_eq!(rt; found.as_deref(), Some(canonical.as_slice()), "of {input:?}");
+            drop(found);
+            drop(canonical);
+            drop(tile);
             true
         }
         Err(error) => {
