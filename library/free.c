@@ -1,5 +1,6 @@
 /* What C does for itself: it gives back what the library handed out, where a list without entries has no block,
- * takes the name of a layer apart, answers a decoder that isn't there, and hands out the text of a sentence. */
+ * takes the name of a layer apart, answers a decoder that isn't there, makes a builder at its first call, and hands out
+ * the text of a sentence. */
 #include "mvt.h"
 
 #include <stdlib.h>
@@ -84,4 +85,180 @@ uint32_t mvt_held_sentence(const uint8_t *bytes, size_t len, const mvt_fault *fa
 const char *mvt_explain(const uint8_t *bytes, size_t len, const mvt_fault *fault) {
     mvt_bytes said = {NULL, 0};
     return mvt_held_sentence(bytes, len, fault, &said) ? (const char *)said.data : "A rule is broken.";
+}
+
+mvt_bytes mvt_text(const char *text) {
+    const mvt_bytes bytes = {(const uint8_t *)text, strlen(text)};
+    return bytes;
+}
+
+static mvt_any any_of(uint32_t kind, uint64_t bits) {
+    const mvt_any value = {kind, bits, {NULL, 0}};
+    return value;
+}
+
+mvt_any mvt_any_text(mvt_bytes text) {
+    const mvt_any value = {MVT_TEXT, 0, text};
+    return value;
+}
+
+mvt_any mvt_any_float(float number) {
+    uint32_t bits;
+    memcpy(&bits, &number, sizeof bits);
+    return any_of(MVT_FLOAT, bits);
+}
+
+mvt_any mvt_any_double(double number) {
+    uint64_t bits;
+    memcpy(&bits, &number, sizeof bits);
+    return any_of(MVT_DOUBLE, bits);
+}
+
+mvt_any mvt_any_int(int64_t number) { return any_of(MVT_INT, (uint64_t)number); }
+mvt_any mvt_any_uint(uint64_t number) { return any_of(MVT_UINT, number); }
+mvt_any mvt_any_sint(int64_t number) { return any_of(MVT_SINT, (uint64_t)number); }
+mvt_any mvt_any_bool(int truth) { return any_of(MVT_BOOL, truth != 0); }
+
+/* The proved calls of a builder take one that is there, and hand it back. */
+typedef struct {
+    void *builder;
+} making;
+uint32_t mvt_making_new(making *out);
+uint32_t mvt_making_layer(making of, const uint8_t *name, size_t len, uint32_t extent, making *again);
+uint32_t mvt_making_foreign(making of, uint32_t version, const uint8_t *bytes, size_t len, making *again);
+uint32_t mvt_making_key(making of, const uint8_t *key, size_t len, making *again, uint32_t *index);
+uint32_t mvt_making_value(making of, const mvt_any *value, making *again, uint32_t *index);
+uint32_t mvt_making_feature(making of, uint32_t kind, making *again);
+uint32_t mvt_making_id(making of, uint64_t id, making *again);
+uint32_t mvt_making_tag(making of, const uint8_t *key, size_t len, const mvt_any *value, making *again);
+uint32_t mvt_making_tag_at(making of, uint32_t key, uint32_t value, making *again);
+uint32_t mvt_making_line(making of, making *again);
+uint32_t mvt_making_ring(making of, uint32_t exterior, making *again);
+uint32_t mvt_making_points(making of, const mvt_point *points, size_t count, making *again);
+uint32_t mvt_making_integers(making of, const uint32_t *integers, size_t count, making *again);
+uint32_t mvt_making_drop(making of, making *again);
+uint32_t mvt_making_rows(making of, making *again, mvt_tile *out);
+uint32_t mvt_making_finish(making of, mvt_bytes *out);
+void mvt_making_free(making of);
+
+/* What a builder of C holds: the proved one, and the rows that it lent last. */
+typedef struct {
+    making now;
+    mvt_tile rows;
+} builder;
+
+/* What a builder holds whose first call found no memory, so that its later calls say so too. It is never written. */
+static const builder WITHOUT_MEMORY;
+
+/* Finds the builder, which the first call makes, and takes the rows back that it lent. NULL where there is no memory. */
+static builder *enter(mvt_builder *of) {
+    if (of->held == NULL) {
+        builder *made = calloc(1, sizeof *made);
+        if (made != NULL && mvt_making_new(&made->now) != MVT_OK) {
+            free(made);
+            made = NULL;
+        }
+        of->held = made != NULL ? (void *)made : (void *)&WITHOUT_MEMORY;
+    }
+    if (of->held == (void *)&WITHOUT_MEMORY) return NULL;
+    builder *b = of->held;
+    mvt_tile_free(&b->rows);
+    return b;
+}
+
+mvt_status mvt_builder_layer(mvt_builder *of, mvt_bytes name, uint32_t extent) {
+    builder *b = enter(of);
+    return b == NULL ? MVT_NO_MEMORY : mvt_making_layer(b->now, name.data, name.len, extent, &b->now);
+}
+
+mvt_status mvt_builder_foreign(mvt_builder *of, uint32_t version, mvt_bytes bytes) {
+    builder *b = enter(of);
+    return b == NULL ? MVT_NO_MEMORY : mvt_making_foreign(b->now, version, bytes.data, bytes.len, &b->now);
+}
+
+mvt_status mvt_builder_key(mvt_builder *of, mvt_bytes key, uint32_t *index) {
+    builder *b = enter(of);
+    return b == NULL ? MVT_NO_MEMORY : mvt_making_key(b->now, key.data, key.len, &b->now, index);
+}
+
+mvt_status mvt_builder_value(mvt_builder *of, mvt_any value, uint32_t *index) {
+    builder *b = enter(of);
+    return b == NULL ? MVT_NO_MEMORY : mvt_making_value(b->now, &value, &b->now, index);
+}
+
+mvt_status mvt_builder_feature(mvt_builder *of, mvt_kind kind) {
+    builder *b = enter(of);
+    return b == NULL ? MVT_NO_MEMORY : mvt_making_feature(b->now, kind, &b->now);
+}
+
+mvt_status mvt_builder_id(mvt_builder *of, uint64_t id) {
+    builder *b = enter(of);
+    return b == NULL ? MVT_NO_MEMORY : mvt_making_id(b->now, id, &b->now);
+}
+
+mvt_status mvt_builder_tag(mvt_builder *of, mvt_bytes key, mvt_any value) {
+    builder *b = enter(of);
+    return b == NULL ? MVT_NO_MEMORY : mvt_making_tag(b->now, key.data, key.len, &value, &b->now);
+}
+
+mvt_status mvt_builder_tag_at(mvt_builder *of, uint32_t key, uint32_t value) {
+    builder *b = enter(of);
+    return b == NULL ? MVT_NO_MEMORY : mvt_making_tag_at(b->now, key, value, &b->now);
+}
+
+mvt_status mvt_builder_line(mvt_builder *of) {
+    builder *b = enter(of);
+    return b == NULL ? MVT_NO_MEMORY : mvt_making_line(b->now, &b->now);
+}
+
+mvt_status mvt_builder_ring(mvt_builder *of, int exterior) {
+    builder *b = enter(of);
+    return b == NULL ? MVT_NO_MEMORY : mvt_making_ring(b->now, exterior != 0, &b->now);
+}
+
+mvt_status mvt_builder_points(mvt_builder *of, const mvt_point *points, size_t count) {
+    builder *b = enter(of);
+    return b == NULL ? MVT_NO_MEMORY : mvt_making_points(b->now, points, count, &b->now);
+}
+
+mvt_status mvt_builder_point(mvt_builder *of, int32_t x, int32_t y) {
+    const mvt_point point = {x, y};
+    return mvt_builder_points(of, &point, 1);
+}
+
+mvt_status mvt_builder_integers(mvt_builder *of, const uint32_t *integers, size_t count) {
+    builder *b = enter(of);
+    return b == NULL ? MVT_NO_MEMORY : mvt_making_integers(b->now, integers, count, &b->now);
+}
+
+mvt_status mvt_builder_drop(mvt_builder *of) {
+    builder *b = enter(of);
+    return b == NULL ? MVT_NO_MEMORY : mvt_making_drop(b->now, &b->now);
+}
+
+mvt_status mvt_builder_rows(mvt_builder *of, mvt_tile *out) {
+    builder *b = enter(of);
+    if (b == NULL) return MVT_NO_MEMORY;
+    const uint32_t status = mvt_making_rows(b->now, &b->now, &b->rows);
+    if (status == MVT_OK) *out = b->rows;
+    return status;
+}
+
+mvt_status mvt_builder_finish(mvt_builder *of, mvt_bytes *out) {
+    builder *b = enter(of);
+    of->held = NULL;
+    if (b == NULL) return MVT_NO_MEMORY;
+    const making last = b->now;
+    free(b);
+    return mvt_making_finish(last, out);
+}
+
+void mvt_builder_free(mvt_builder *of) {
+    if (of == NULL || of->held == NULL) return;
+    builder *b = of->held;
+    of->held = NULL;
+    if (b == &WITHOUT_MEMORY) return;
+    mvt_tile_free(&b->rows);
+    mvt_making_free(b->now);
+    free(b);
 }

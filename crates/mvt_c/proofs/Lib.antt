@@ -1,3 +1,4 @@
 mod NameLemmas
 mod AsBox
+mod AsBuilderBox
 mod RefusalLemmas

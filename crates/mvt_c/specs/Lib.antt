@@ -4,3 +4,4 @@ pub mod Calls
 pub mod Texts
 pub mod Held
 pub mod Places
+pub mod Building

@@ -11,7 +11,7 @@ ghost use Rattle.mvt_rows.specs.Reading.{IsRead, IsReadPast};
 ghost use Rattle.mvt_rows.specs.Tables.{table_size};
 
 mod held;
-mod parts;
+pub(crate) mod parts;
 
 use crate::fault::Fault;
 use crate::refusal::{Refusal, report};
@@ -100,7 +100,7 @@ fn fed(decoder: &mut RowsDecoder, piece: &[u8]) -> Result<(), Refusal>
 
 /// The tile as rows, after the last piece (`mvt_decoder_finish`).
 #[unsafe(no_mangle)]
-pub extern "C" fn mvt_held_finish(held: Held, out: &mut Rows, fault: &mut Fault) -> u32
+pub extern "C" fn mvt_held_finish(held: Held, out: &mut Rows<'static>, fault: &mut Fault) -> u32
     ensures done { result ≡ 0 → (s : List ℕ) → StandsFor held.decoder.most held.decoder.inner s
         → IsRead s (table_of out.new) }
     ensures within { result ≡ 0 → table_size (table_of out.new) ≤ held.decoder.most }

@@ -5,6 +5,7 @@
 //! it.
 #![tactic(auto)]
 
+mod building;
 mod calls;
 mod decoder;
 mod fault;

@@ -37,7 +37,12 @@ fn judged(alloc: Global, bytes: &[u8]) -> Result<(), Refusal>
 
 /// A tile as rows (`mvt_read`).
 #[unsafe(no_mangle)]
-pub extern "C" fn mvt_read(alloc: Global, bytes: &[u8], out: &mut Rows, fault: &mut Fault) -> u32
+pub extern "C" fn mvt_read(
+    alloc: Global,
+    bytes: &[u8],
+    out: &mut Rows<'static>,
+    fault: &mut Fault,
+) -> u32
     ensures done { result ≡ 0 → IsRead bytes.now (table_of out.new) }
     ensures refused { result ≡ 1 → IsReported bytes.now fault.new }
     ensures few { result ≤ 2 }
@@ -53,7 +58,7 @@ pub extern "C" fn mvt_read_within(
     alloc: Global,
     bytes: &[u8],
     most: u64,
-    out: &mut Rows,
+    out: &mut Rows<'static>,
     fault: &mut Fault,
 ) -> u32
     ensures done { result ≡ 0 → IsRead bytes.now (table_of out.new) }
@@ -86,7 +91,7 @@ pub extern "C" fn mvt_read_named(
     alloc: Global,
     bytes: &[u8],
     name: &[u8],
-    out: &mut Rows,
+    out: &mut Rows<'static>,
     fault: &mut Fault,
 ) -> u32
     ensures done { result ≡ 0 → IsLayerRead name.now bytes.now (table_of out.new) }

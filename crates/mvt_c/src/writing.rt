@@ -13,7 +13,7 @@ use std::alloc::Global;
 
 /// The canonical bytes of the tile that rows are (`mvt_write`).
 #[unsafe(no_mangle)]
-pub extern "C" fn mvt_write(alloc: Global, rows: &Rows, out: &mut Bytes) -> u32
+pub extern "C" fn mvt_write(alloc: Global, rows: &Rows<'_>, out: &mut Bytes) -> u32
     ensures done { result ≡ 0 → IsWritten (table_of rows.now) out.new.bytes.now }
     ensures too_large { result ≡ 3 → IsTooLargeOfRows (table_of rows.now) }
     ensures no_tile { result ≡ 6 → IsNoTile (table_of rows.now) }
@@ -38,7 +38,7 @@ pub extern "C" fn mvt_write(alloc: Global, rows: &Rows, out: &mut Bytes) -> u32
 #[unsafe(no_mangle)]
 pub extern "C" fn mvt_write_rows(
     alloc: Global,
-    rows: &Rows,
+    rows: &Rows<'_>,
     out: &mut Bytes,
     fault: &mut RowsFaultRow,
 ) -> u32
@@ -80,7 +80,7 @@ pub struct RowsFaultRow {
 /// Whether rows are a valid tile, and else the first thing that is wrong with them
 /// (`mvt_judge_rows`).
 #[unsafe(no_mangle)]
-pub extern "C" fn mvt_judge_rows(alloc: Global, rows: &Rows, fault: &mut RowsFaultRow) -> u32
+pub extern "C" fn mvt_judge_rows(alloc: Global, rows: &Rows<'_>, fault: &mut RowsFaultRow) -> u32
     ensures valid { result ≡ 0 → AreValid (table_of rows.now) }
     ensures no_tile { result ≡ 6 → IsRowsFault (table_of rows.now) fault.new }
     ensures known { (result ≡ 0) ⊎ ((result ≡ 2) ⊎ (result ≡ 6)) }

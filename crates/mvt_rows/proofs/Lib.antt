@@ -12,3 +12,5 @@ mod ReadTableLemmas
 mod ReadLemmas
 mod VisitLemmas
 mod ReadIsTileLemmas
+mod BuildingLemmas
+mod ToldTileLemmas

@@ -112,7 +112,7 @@ line_after t part =
     (part_after t.points (map point_row part.points) (length part.points) (sym (length-map part.points point_row)))
     ∙ ap Some (map_back part.points)
 
-truth_back : (b : Bool) → truth_of (truth_number b) ≡ Some b
+pub truth_back : (b : Bool) → truth_of (truth_number b) ≡ Some b
 truth_back true = refl
 truth_back false = refl
 

@@ -9,3 +9,7 @@ pub mod RowsFaults
 pub mod Reading
 pub mod Visiting
 pub mod Decoding
+pub mod Told
+pub mod ToldRows
+pub mod ToldTile
+pub mod Building

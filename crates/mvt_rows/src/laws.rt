@@ -3,13 +3,18 @@ ghost use Rattle.std.specs.Prelude.{◌≡◌, ℕ, List};
 ghost use Rattle.mvt_base.specs.declared.TheConstants.{LIMIT};
 ghost use Rattle.mvt_feature.specs.Ranges.{AreBytes};
 ghost use Rattle.mvt_tile_value.specs.declared.tile.Tile.{Tile};
+ghost use Rattle.mvt_tile_value.specs.CanonicalTiles.{canonical};
 ghost use Rattle.mvt_tile_value.specs.Tiles.{IsTile};
+ghost use Rattle.mvt_tile_value.specs.ValidTiles.{Valid};
 ghost use Rattle.mvt_rows.specs.declared.rows_cause.RowsFault.{RowsFault};
 ghost use Rattle.mvt_rows.specs.Reading.{IsRead, IsRewritten, IsTooLarge};
 ghost use Rattle.mvt_rows.specs.ReadTables.{read_table};
 ghost use Rattle.mvt_rows.specs.RowsFaults.{IsFaultOf};
 ghost use Rattle.mvt_rows.specs.Tables.{Table};
 ghost use Rattle.mvt_rows.specs.TileRows.{IsTileOf};
+ghost use Rattle.mvt_rows.specs.Told.{ToldItem};
+ghost use Rattle.mvt_rows.specs.ToldRows.{rows_of};
+ghost use Rattle.mvt_rows.specs.ToldTile.{IsToldTile};
 ghost use Rattle.mvt_rows.specs.Written.{IsNoTile, IsTooLargeOfRows, IsWritten};
 
 /// Rows are one tile at most.
@@ -46,4 +51,17 @@ pub fn read_rows_are_written()
 pub fn rows_have_one_fault()
     ensures { (table : Table) (fault other : RowsFault) → IsFaultOf table fault
         → IsFaultOf table other → fault ≡ other }
+{}
+
+/// The rows of what a builder was told are the tile that it was told: that is written, and as its
+/// canonical bytes.
+pub fn told_rows_are_tile()
+    ensures tile { (told : List ToldItem) (tile : Tile) → IsToldTile told tile
+        → IsTileOf (rows_of told) tile }
+    ensures written { (told : List ToldItem) (tile : Tile) (made : List ℕ) → IsToldTile told tile
+        → IsWritten (rows_of told) made
+        → made ≡ canonical tile }
+    ensures taken { (told : List ToldItem) (tile : Tile) → IsToldTile told tile → Valid tile
+        → IsNoTile (rows_of told)
+        → ⊥ }
 {}

@@ -3,17 +3,21 @@
 //! tile without calls.
 #![tactic(auto)]
 
+mod builder;
 pub mod laws;
 mod places;
 mod rows;
 mod rows_cause;
 mod rows_error;
 mod table;
+mod words;
 mod work;
 mod writing;
 
+pub use builder::{BuildError, Builder, FinishError};
 pub use rows::{FeatureRow, LayerRow, PartRow, PointRow, Rows, Span, ValueRow};
 pub use rows_cause::{RowsCause, RowsFault};
 pub use rows_error::RowsError;
 pub use table::{RowsDecoder, RowsVisitor, Table, read_layer, read_rows, read_rows_within};
+pub use words::AnyValue;
 pub use writing::{rows_fault, write_rows};

@@ -71,19 +71,19 @@ pub struct PointRow {
     pub y: i32,
 }
 
-/// The rows of a tile, as lists that last until C frees them. An empty list has nothing to be
-/// freed.
+/// The rows of a tile, as lists that are lent, or that last until C frees them. An empty list
+/// has nothing to be freed.
 #[repr(C)]
 #[derive(Clone, Copy, Debug)]
-pub struct Rows {
-    pub layers: &'static [LayerRow],
-    pub features: &'static [FeatureRow],
+pub struct Rows<'a> {
+    pub layers: &'a [LayerRow],
+    pub features: &'a [FeatureRow],
     /// The names of keys, as parts of the texts.
-    pub keys: &'static [Span],
-    pub values: &'static [ValueRow],
-    pub tags: &'static [u32],
-    pub parts: &'static [PartRow],
-    pub points: &'static [PointRow],
-    pub integers: &'static [u32],
-    pub texts: &'static [u8],
+    pub keys: &'a [Span],
+    pub values: &'a [ValueRow],
+    pub tags: &'a [u32],
+    pub parts: &'a [PartRow],
+    pub points: &'a [PointRow],
+    pub integers: &'a [u32],
+    pub texts: &'a [u8],
 }

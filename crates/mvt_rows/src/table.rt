@@ -8,6 +8,7 @@ ghost use Rattle.mvt_rows.specs.Lent.{table_of};
 ghost use Rattle.mvt_rows.specs.ReadTables.{places_of};
 ghost use Rattle.mvt_rows.specs.Tables.{no_rows, with_key, with_value, with_number, table_size};
 
+mod building;
 mod drawing;
 mod layers;
 mod visiting;
@@ -133,8 +134,25 @@ impl Table {
         size <= most as u128
     }
 
+    /// The lists, lent.
+    pub fn lent(&self) -> Rows<'_>
+        ensures { table_of result ≡ self.now }
+    {
+        Rows {
+            layers: &self.layers,
+            features: &self.features,
+            keys: &self.keys,
+            values: &self.values,
+            tags: &self.tags,
+            parts: &self.parts,
+            points: &self.points,
+            integers: &self.integers,
+            texts: &self.texts,
+        }
+    }
+
     /// The lists, handed out: they last until whoever has them frees them.
-    pub fn leak(self) -> Rows
+    pub fn leak(self) -> Rows<'static>
         ensures { table_of result ≡ self }
     {
         let Table {
@@ -165,9 +183,7 @@ impl Table {
         ensures key { OnOk result (self.new ≡ with_key self.old key.now) }
         ensures utf8 { IsUtf8 key.now }
     {
-        let text = after_list(self.texts.len(), key.len());
-        self.keys.push(text)?;
-        self.texts.extend_from_slice(key.as_bytes())
+        self.add_word(key.as_bytes())
     }
 
     fn add_number(&mut self, kind: u32, bits: u64) -> Result<(), AllocError>

@@ -20,7 +20,7 @@ pub(crate) struct Work {
 }
 
 impl Work {
-    pub(crate) fn of(rows: &Rows) -> Self
+    pub(crate) fn of(rows: &Rows<'_>) -> Self
         ensures { result.left ≡ the_limit + entry_count (table_of rows.now) }
     {
         let entries = rows.layers.len() as u128

@@ -42,7 +42,7 @@ use std::str;
 /// Rows that are no valid tile, and why; a result beyond the limit; want of memory. Spans that
 /// overlap, and
 /// so name more entries than all lists and the limit have, are told as want of memory.
-pub fn write_rows(alloc: Global, rows: &Rows) -> Result<Vec<u8>, RowsError>
+pub fn write_rows(alloc: Global, rows: &Rows<'_>) -> Result<Vec<u8>, RowsError>
     ensures done { IfOk result (λ made. IsWritten (table_of rows.now) made.items) }
     ensures refused { IfErr result (NotWritten (table_of rows.now)) }
 {
@@ -62,7 +62,7 @@ pub fn write_rows(alloc: Global, rows: &Rows) -> Result<Vec<u8>, RowsError>
 /// # Errors
 ///
 /// When memory runs out, or spans that overlap name more entries than all lists and the limit have.
-pub fn rows_fault(alloc: Global, rows: &Rows) -> Result<Option<RowsFault>, RowsError>
+pub fn rows_fault(alloc: Global, rows: &Rows<'_>) -> Result<Option<RowsFault>, RowsError>
     ensures fault { IfOk result (λ found. MatchOption found (AreValid (table_of rows.now))
         (IsFaultOf (table_of rows.now))) }
     ensures memory { IfErr result (λ error. error ≡ Memory) }
@@ -84,7 +84,7 @@ struct RowsWriter {
 }
 
 impl RowsWriter {
-    fn new(alloc: Global, rows: &Rows) -> Self
+    fn new(alloc: Global, rows: &Rows<'_>) -> Self
         ensures { HasAdded result [] }
     {
         RowsWriter {
@@ -95,7 +95,7 @@ impl RowsWriter {
     }
 
     /// Adds the item of a row.
-    fn add(&mut self, alloc: Global, rows: &Rows, row: &LayerRow) -> Result<(), RowError>
+    fn add(&mut self, alloc: Global, rows: &Rows<'_>, row: &LayerRow) -> Result<(), RowError>
         ensures added { (items : List Item) → HasAdded self.old items
             → OnOk result (HasAddedRow (table_of rows.now) row.now self.new items) }
         ensures wrong { (items : List Item) → HasAdded self.old items → IfErr result
@@ -108,7 +108,7 @@ impl RowsWriter {
         }
     }
 
-    fn add_layer(&mut self, alloc: Global, rows: &Rows, row: &LayerRow) -> Result<(), RowError>
+    fn add_layer(&mut self, alloc: Global, rows: &Rows<'_>, row: &LayerRow) -> Result<(), RowError>
         requires { row.now.version ≡ 2 }
         ensures added { (items : List Item) → HasAdded self.old items
             → OnOk result (HasAddedRow (table_of rows.now) row.now self.new items) }
@@ -130,7 +130,7 @@ impl RowsWriter {
     }
 
     /// Adds the bytes of a layer of another version.
-    fn add_foreign(&mut self, rows: &Rows, row: &LayerRow) -> Result<(), RowError>
+    fn add_foreign(&mut self, rows: &Rows<'_>, row: &LayerRow) -> Result<(), RowError>
         requires { row.now.version ≢ 2 }
         ensures added { (items : List Item) → HasAdded self.old items
             → OnOk result (HasAddedRow (table_of rows.now) row.now self.new items) }

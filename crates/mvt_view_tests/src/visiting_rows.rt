@@ -7,7 +7,7 @@ use mvt_tile::TileVisitor;
 use std::process::Abort;
 
 // The rows that a visitor has behind the fault of its first layer.
-fn rows_behind_a_fault(rt: &(impl Abort + AllocGlobal), bytes: &[u8; 67]) -> Rows {
+fn rows_behind_a_fault(rt: &(impl Abort + AllocGlobal), bytes: &[u8; 67]) -> Rows<'static> {
     let mut visitor = RowsVisitor::new(rt.alloc(), u64::MAX);
     let done = visitor.visit_item(rt.alloc(), &bytes[2..63], 2, 0);
     expect!(rt; matches!(done, Err(MessageError::Fault { .. })));

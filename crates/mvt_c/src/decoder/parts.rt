@@ -7,8 +7,8 @@ use std::marker::Model;
 
 /// Where a value lies, and the allocator that gave the memory.
 pub struct Parts<T, A: Allocator> {
-    pub(super) ptr: *mut T,
-    pub(super) alloc: A,
+    pub(crate) ptr: *mut T,
+    pub(crate) alloc: A,
     pub ghost value: { T },
 }
 

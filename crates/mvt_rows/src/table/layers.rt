@@ -11,7 +11,7 @@ use mvt_geometry::Kind;
 use std::alloc::AllocError;
 
 /// What was added to a list that had so many entries.
-fn added(before: usize, now: usize) -> Span
+pub(super) fn added(before: usize, now: usize) -> Span
     ensures { result ≡ record { start = before; len = now - before } }
 {
     after_list(before, now.saturating_sub(before))
@@ -65,6 +65,18 @@ impl Table {
     ) -> Result<(), AllocError>
         ensures { OnOk result (self.new ≡ with_layer_row self.old name.now extent opened) }
     {
+        self.add_named_row(name.as_bytes(), extent, opened)
+    }
+
+    /// The same with a name that may be no UTF-8.
+    pub(crate) fn add_named_row(
+        &mut self,
+        name: &[u8],
+        extent: u32,
+        opened: Places,
+    ) -> Result<(), AllocError>
+        ensures { OnOk result (self.new ≡ with_layer_row self.old name.now extent opened) }
+    {
         self.layers.push(LayerRow {
             version: 2,
             extent,
@@ -74,7 +86,7 @@ impl Table {
             values: added(opened.values, self.values.len()),
             bytes: after_list(0, 0),
         })?;
-        self.texts.extend_from_slice(name.as_bytes())
+        self.texts.extend_from_slice(name)
     }
 
     /// Drops what stands behind these places of values and texts.
@@ -86,7 +98,7 @@ impl Table {
     }
 
     /// Adds a layer of another version, which is carried as it is.
-    pub(super) fn add_foreign(&mut self, version: u32, bytes: &[u8]) -> Result<(), AllocError>
+    pub(crate) fn add_foreign(&mut self, version: u32, bytes: &[u8]) -> Result<(), AllocError>
         ensures { OnOk result (self.new ≡ with_foreign self.old version bytes.now) }
     {
         let nowhere = after_list(0, 0);

@@ -21,24 +21,24 @@ use std::alloc::Global;
 
 /// What the row of a feature says: its tags name attributes.
 #[derive(Drop)]
-pub(crate) struct FeatureParts {
+pub(crate) struct FeatureParts<'a> {
     pub(crate) id: Option<u64>,
-    pub(crate) tags: &'static [u32],
+    pub(crate) tags: &'a [u32],
     /// The type of its geometry; `None` where no integers draw that.
     pub(crate) kind: Option<Kind>,
 }
 
 /// What the row of a feature says, in a layer with these keys and this number of values. The
 /// integers become those that draw its geometry, where there are any.
-pub(crate) fn feature_parts(
+pub(crate) fn feature_parts<'a>(
     alloc: Global,
-    rows: &Rows,
+    rows: &Rows<'a>,
     keys: &mut LayerKeys<'_>,
     values: usize,
     row: &FeatureRow,
     work: &mut Work,
     integers: &mut PackedNumbers,
-) -> Result<FeatureParts, RowError>
+) -> Result<FeatureParts<'a>, RowError>
     ensures parts { (held : List AValue) → length held ≡ values
         → IfOk result (AreFeatureParts (table_of rows.now) keys.old held row.now integers.new) }
     ensures clean { (held : List AValue) → length held ≡ values

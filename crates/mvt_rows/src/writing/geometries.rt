@@ -42,7 +42,7 @@ impl Position for PointRow {
 ///
 /// Parts that can't be drawn are told only after all parts have counted.
 pub(crate) fn append_row_geometry(
-    rows: &Rows,
+    rows: &Rows<'_>,
     row: &FeatureRow,
     work: &mut Work,
     integers: &mut PackedNumbers,

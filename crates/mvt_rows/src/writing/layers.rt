@@ -30,7 +30,7 @@ use std::alloc::{AllocError, Global};
 /// more bytes than the limit.
 pub(crate) fn layer_payload(
     alloc: Global,
-    rows: &Rows,
+    rows: &Rows<'_>,
     row: &LayerRow,
     name: &str,
     work: &mut Work,
@@ -57,18 +57,18 @@ pub(crate) fn layer_payload(
 
 /// What the row of a layer names.
 #[derive(Drop)]
-struct LayerParts {
+struct LayerParts<'a> {
     keys: Vec<Text>,
     values: Vec<Value>,
-    rows: &'static [FeatureRow],
+    rows: &'a [FeatureRow],
 }
 
-fn layer_parts(
+fn layer_parts<'a>(
     alloc: Global,
-    rows: &Rows,
+    rows: &Rows<'a>,
     row: &LayerRow,
     work: &mut Work,
-) -> Result<LayerParts, RowError>
+) -> Result<LayerParts<'a>, RowError>
     ensures parts { IfOk result (AreLayerParts (table_of rows.now) row.now) }
     ensures clean { OnOk result (parts_cause (table_of rows.now) row.now ≡ None) }
     ensures wrong { IfErr result (IsWrongAs (parts_cause (table_of rows.now) row.now)) }
@@ -111,7 +111,7 @@ impl FeatureLists {
 /// Writes the features of a layer with these keys.
 fn write_features(
     alloc: Global,
-    rows: &Rows,
+    rows: &Rows<'_>,
     keys: &[Text],
     of_layer: &[FeatureRow],
     work: &mut Work,
@@ -142,7 +142,7 @@ fn write_features(
 /// Judges the feature of a row, and writes it.
 fn write_feature(
     alloc: Global,
-    rows: &Rows,
+    rows: &Rows<'_>,
     row: &FeatureRow,
     keys: &mut LayerKeys<'_>,
     work: &mut Work,
