@@ -4,7 +4,7 @@ MVT [COUNT..]
 
 TILES is a folder that examples/producers/gdal and tilemaker filled. Of its tiles those of 700 to 1,400 bytes are taken in
 turn, compressed by gzip, as caches are, until there are so many: 100,000 and 1,000,000 where no count is given. MVT is the
-program. The module mvt has to be found (PYTHONPATH, MVT_LIBRARY). Peaks of memory are of the client and of its largest
+program. The module mvt has to be found (PYTHONPATH). Peaks of memory are of the client and of its largest
 worker, seen twenty times a second. The microseconds of a processor are those that the client says it took from the first
 tile to the last, Dask's scheduler included; then these without what it takes anyway each second for four workers that do
 nothing; and those of all workers together, without what they take for one tile. A client feeds as many workers as take the
@@ -21,7 +21,7 @@ import time
 from pathlib import Path
 
 import psutil
-from mvt._reporter import Reporter
+from mvt._mvt import answer
 from mvt.audit import engine
 from mvt.audit.judging import judged_part
 from mvt.audit.results import Block, Results
@@ -197,11 +197,11 @@ def alone(tiles, name):
         results.begin([store], [store.state()], ADDED)
         block = judged_part(store, next(store.ranges(ADDED)))
         part = next(store.ranges(JUDGED))
-        contents, reporter = [content for _, content in store.tiles(part)], Reporter()
+        contents = [content for _, content in store.tiles(part)]
         judged, needed, added = [], [], []
         for number in range(TRIED):
             judged.append(spent_by(lambda: judged_part(store, part)))
-            needed.append(spent_by(lambda: [reporter(unpacked(content)) for content in contents]))
+            needed.append(spent_by(lambda: [answer("report", unpacked(content)) for content in contents]))
             added.append(spent_by(lambda: results.add([Block(store.path, number, block)])))  # noqa: B023
         results.close()
     return (f"{name}: a worker {1e6 * min(judged) / JUDGED:.1f} µs a tile, of which unpacking and judging take"

@@ -336,7 +336,21 @@ static void write_point(void) {
     require(mvt_write(&nothing, &out) == MVT_OK && out.len == 0, "no rows are the empty tile");
 }
 
+/* A pointer beside a length or a count of 0 may be NULL. */
+static void take_nothing(void) {
+    mvt_tile rows = {0};
+    mvt_bytes out = {0};
+    mvt_fault fault;
+    require(mvt_judge(NULL, 0, &fault) == MVT_OK, "no bytes are a tile");
+    require(mvt_read(NULL, 0, &rows, &fault) == MVT_OK && rows.layer_count == 0, "no bytes have no rows");
+    require(mvt_rewrite(NULL, 0, &out, &fault) == MVT_OK && out.len == 0, "no bytes are canonical");
+    require(mvt_extract(NULL, 0, NULL, 0, &out, &fault) == MVT_OK && out.len == 0, "no layers of no bytes");
+    mvt_tile_free(&rows);
+    mvt_bytes_free(&out);
+}
+
 int main(int argc, char **argv) {
+    take_nothing();
     mvt_bytes_free(NULL);
     mvt_tile_free(NULL);
     mvt_decoder_free(NULL);

@@ -46,6 +46,15 @@ class Building(unittest.TestCase):
         )
         self.assertEqual(tile, wanted)
 
+    def test_empty_texts_first(self):
+        builder = mvt.Builder().layer("")
+        builder.feature("points").tag("", "").point(1, 1)
+        tile = mvt.Tile([mvt.Layer("", 4096, [mvt.Feature(None, {"": ""}, "points", [(1, 1)])])])
+        self.assertEqual(mvt.read(builder.finish()), tile)
+        self.assertEqual((len(builder.rows().layers), mvt.read(mvt.write(tile))), (1, tile))
+        with self.assertRaisesRegex(mvt.NoTile, "layer 0: the layer's bytes"):
+            mvt.Builder().foreign(1, b"").finish()
+
     def test_keys_and_values_stand_once(self):
         builder = mvt.Builder().layer("a")
         self.assertEqual([builder.key(key) for key in ("name", "height", "name")], [0, 1, 0])

@@ -1,35 +1,34 @@
-"""The structures of the Python module have the sizes and offsets that a compiler gives those of mvt.h.
+"""The rows of the Python module have the sizes and offsets that a compiler gives those of mvt.h.
 
 The environment may name the compiler (CC)."""
 
-import ctypes
 import os
 import subprocess
-import sys
 import tempfile
 import unittest
 from pathlib import Path
 
+import mvt
+
 LIBRARY = Path(__file__).resolve().parents[2] / "library"
-sys.path.insert(0, str(LIBRARY / "python"))
-
-from mvt import _layout  # noqa: E402
-
-STRUCTURES = {
-    "bytes": _layout.Bytes,
-    "fault": _layout.FaultRow,
-    "span": _layout.Span,
-    "layer": _layout.LayerRow,
-    "feature": _layout.FeatureRow,
-    "value": _layout.ValueRow,
-    "part": _layout.PartRow,
-    "point": _layout.PointRow,
-    "tile": _layout.TileRows,
-    "rows_fault": _layout.RowsFaultRow,
-    "decoder": _layout.DecoderRow,
-    "builder": _layout.BuilderRow,
-    "any": _layout.AnyRow,
-    "place": _layout.PlaceRow,
+ROWS = {
+    "span": mvt.Span,
+    "layer": mvt.LayerRow,
+    "feature": mvt.FeatureRow,
+    "value": mvt.ValueRow,
+    "part": mvt.PartRow,
+    "point": mvt.PointRow,
+}
+LISTS = {
+    "layers": "mvt_layer",
+    "features": "mvt_feature",
+    "keys": "mvt_span",
+    "values": "mvt_value",
+    "tags": "uint32_t",
+    "parts": "mvt_part",
+    "points": "mvt_point",
+    "integers": "uint32_t",
+    "texts": "uint8_t",
 }
 
 
@@ -44,26 +43,40 @@ def compiled(expressions):
         return [int(line) for line in subprocess.check_output([str(program)], text=True).split()]
 
 
-def field_of(structure, name):
-    """What C calls a field: the count of a list is called by the list in Python alone."""
-    return name if structure != "tile" else name.replace("s_count", "_count").replace("text_count", "text_len")
+def place(row, field):
+    """The bytes of a row that a field sets: the first, and how many."""
+    made = row()
+    setattr(made, field, mvt.Span(-1, -1) if isinstance(getattr(made, field), mvt.Span) else -1)
+    content = bytes(made)
+    start = content.index(b"\xff")
+    size = content.count(b"\xff")
+    assert content == bytes(start) + b"\xff" * size + bytes(len(content) - start - size)
+    return start, size
 
 
 class Layout(unittest.TestCase):
-    def test_each_structure_is_there(self):
-        found = {kind for kind in vars(_layout).values() if isinstance(kind, type) and issubclass(kind, ctypes.Structure)}
-        found -= {ctypes.Structure, _layout.Row, _layout.Content}
-        self.assertEqual(found, set(STRUCTURES.values()))
-
     def test_sizes_and_offsets(self):
         wanted = {}
-        for name, structure in STRUCTURES.items():
-            wanted["sizeof(mvt_%s)" % name] = ctypes.sizeof(structure)
-            for field, *_ in structure._fields_:
-                row = getattr(structure, field)
-                wanted["offsetof(mvt_%s, %s)" % (name, field_of(name, field))] = row.offset
-                wanted["sizeof(((mvt_%s *)0)->%s)" % (name, field_of(name, field))] = row.size
+        for name, row in ROWS.items():
+            wanted["sizeof(mvt_%s)" % name] = len(bytes(row()))
+            for field, _ in row._fields_:
+                offset, size = place(row, field)
+                wanted["offsetof(mvt_%s, %s)" % (name, field)] = offset
+                wanted["sizeof(((mvt_%s *)0)->%s)" % (name, field)] = size
         self.assertEqual(dict(zip(wanted, compiled(wanted))), wanted)
+
+    def test_each_field_is_there(self):
+        header = (LIBRARY / "mvt.h").read_text()
+        for name, row in ROWS.items():
+            body = header[: header.index("} mvt_%s;" % name)].rpartition("typedef struct {")[2]
+            lines = [line.split("/*")[0].strip() for line in body.split("\n") if ";" in line]
+            told = [field.strip() for line in lines for field in line.rstrip(";").split(" ", 1)[1].split(",")]
+            self.assertEqual([field for field, _ in row._fields_], told)
+
+    def test_lists(self):
+        flat = mvt.rows(b"")
+        sizes = compiled(["sizeof(%s)" % row for row in LISTS.values()])
+        self.assertEqual([memoryview(getattr(flat, name)).itemsize for name in LISTS], sizes)
 
     def test_rows_of_numpy(self):
         try:
@@ -72,9 +85,14 @@ class Layout(unittest.TestCase):
             from mvt import dtype
         except ImportError:
             self.skipTest("numpy isn't there")
-        for name, row in _layout.LISTS.items():
-            self.assertEqual(dtype(name), numpy.dtype(row))
-            self.assertEqual(dtype(name).itemsize, ctypes.sizeof(row))
+        for name, of in LISTS.items():
+            if of.startswith("uint"):
+                self.assertEqual(dtype(name), numpy.dtype(of.removesuffix("_t")))
+                continue
+            row = ROWS[of[4:]]
+            self.assertEqual(dtype(name).itemsize, len(bytes(row())))
+            fields = {field: (at, kind.itemsize) for field, (kind, at, *_) in dtype(name).fields.items()}
+            self.assertEqual(fields, {field: place(row, field) for field, _ in row._fields_})
 
 
 if __name__ == "__main__":

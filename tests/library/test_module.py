@@ -234,19 +234,6 @@ class Ends(unittest.TestCase):
         for name in ("layers", "points", "texts"):
             self.assertEqual(len(getattr(mvt.rows(b""), name)), 0)
 
-    def test_null_without_length(self):
-        from ctypes import byref
-
-        from mvt._library import Bytes, FaultRow, TileRows, library
-
-        rows, out, fault = TileRows(), Bytes(), FaultRow()
-        self.assertEqual(library.mvt_read(None, 0, byref(rows), byref(fault)), 0)
-        self.assertEqual(library.mvt_rewrite(None, 0, byref(out), byref(fault)), 0)
-        self.assertEqual(library.mvt_extract(None, 0, None, 0, byref(out), byref(fault)), 0)
-        self.assertEqual((rows.layers_count, out.len), (0, 0))
-        library.mvt_tile_free(byref(rows))
-        library.mvt_bytes_free(byref(out))
-
     def test_values(self):
         """Each kind's least and greatest value, and a NaN that isn't quiet, in the order of the specification's table."""
         spelled = [
@@ -435,7 +422,7 @@ class Arrays(unittest.TestCase):
         self.assertEqual(mvt.rows(b"").array("tags").dtype, self.numpy.uint32)
 
     def test_each_list_as_it_is(self):
-        """Each list, without a warning, as the rows of ctypes say it."""
+        """Each list, without a warning, as the rows say it."""
         flat = mvt.rows(tile("gdal.mvt"))
         for name in ("layers", "features", "keys", "values", "tags", "parts", "points", "integers", "texts"):
             with warnings.catch_warnings():

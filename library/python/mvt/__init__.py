@@ -12,22 +12,41 @@ tells the layer, the feature, the place and the cause of the first broken one. E
 uncompressed tile. Threads may call at the same time.
 """
 
-from typing import TYPE_CHECKING, Any
+from typing import TYPE_CHECKING, Any, Union
 
-from ._building import Builder
-from ._calls import Buffer, extract, judge, report, rewrite, to_json, to_svg
-from ._decoder import Decoder
 from ._errors import MvtError, NoLayer, NoTile, OutOfRange, Refused, TooLarge
-from ._library import FeatureRow, LayerRow, PartRow, PointRow, Span, ValueRow, version
-from ._rows import Rows, read, read_layer, rows
+from ._mvt import (
+    Builder,
+    Decoder,
+    FeatureRow,
+    LayerRow,
+    PartRow,
+    PointRow,
+    Rows,
+    Span,
+    ValueRow,
+    extract,
+    judge,
+    read,
+    read_layer,
+    report,
+    rewrite,
+    rows,
+    to_json,
+    to_svg,
+    version,
+    write,
+)
 from ._tiles import Feature, Foreign, Kind, Layer, Point, Tile
 from ._values import Float, Int, Sint, Uint, Value
-from ._writing import write
 
 if TYPE_CHECKING:
     import numpy
 
 __version__ = version()
+
+# What holds the bytes of a tile.
+Buffer = Union[bytes, bytearray, memoryview]
 
 
 def dtype(name: str) -> "numpy.dtype[Any]":

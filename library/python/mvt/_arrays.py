@@ -1,12 +1,14 @@
 """The lists of a tile's rows as numpy arrays, and made of them. This file alone wants numpy."""
 
-from typing import Any
+from typing import Any, Dict
 
 import numpy
 
-from ._layout import LISTS
+from ._mvt import Rows, rows
 
-_DTYPES = {name: numpy.dtype(row) for name, row in LISTS.items()}
+_LISTS = ("layers", "features", "keys", "values", "tags", "parts", "points", "integers", "texts")
+_NONE: Rows = rows(b"")
+_DTYPES = {name: numpy.asarray(memoryview(getattr(_NONE, name))).dtype for name in _LISTS}
 
 
 def dtype(name: str) -> "numpy.dtype[Any]":
@@ -19,7 +21,15 @@ def array_over(name: str, rows: Any) -> "numpy.ndarray[Any, Any]":
     return numpy.ndarray(len(rows), _DTYPES[name], rows if len(rows) else None)
 
 
-def content_of(name: str, given: Any) -> bytes:
+def contents_of(arrays: Dict[str, Any]) -> Dict[str, bytes]:
+    """The bytes of each list, of arrays by the names of their lists."""
+    unknown = ", ".join(sorted(set(arrays) - set(_LISTS)))
+    if unknown:
+        raise TypeError("a tile has no list of the name %s" % unknown)
+    return {name: _content_of(name, arrays.get(name, ())) for name in _LISTS}
+
+
+def _content_of(name: str, given: Any) -> bytes:
     """The bytes of a list that was given as an array, or as what numpy makes an array of."""
     if name == "texts" and isinstance(given, (bytes, bytearray, memoryview)):
         return bytes(given)

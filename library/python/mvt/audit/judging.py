@@ -11,7 +11,7 @@ from pathlib import Path
 from typing import Any, Dict, Iterable, Iterator, List, NamedTuple, Optional, Tuple
 
 import mvt
-from mvt._reporter import Reporter
+from mvt._mvt import answer, located
 
 from .stores import Address, Content, Store
 from .unpacking import LIMIT, NotUnpacked, is_zlib, unpacked
@@ -26,6 +26,9 @@ TOO_LARGE = 25
 
 # Of a tile with more notes the rest is counted.
 MOST_NOTES = 50
+
+# Statuses of the library.
+_REFUSED, _NO_MEMORY = 1, 2
 
 # Many tiles of a cache are small and equal: what was said of so many such contents, each of so many bytes at most, is kept.
 _MOST_KEPT, _SMALL = 1000, 400
@@ -86,7 +89,6 @@ class Judge:
     """Says what it says of one content after the other, and keeps what it said of small ones."""
 
     def __init__(self) -> None:
-        self._report = Reporter()
         self._kept: Dict[bytes, Said] = {}
         self._last: Tuple[Content, Said] = b"", Said(EMPTY, 0, notes="NoLayers")
 
@@ -120,11 +122,14 @@ class Judge:
         if not tile:
             return Said(EMPTY, 0, notes="NoLayers")
         try:
-            told = self._report(tile)
+            status, told = answer("report", tile)
         except MemoryError:
+            status = _NO_MEMORY
+        if status == _NO_MEMORY:
             return Said(UNREAD, len(tile), notes="out of memory")
-        if told is None:
-            return Said(REFUSED, len(tile), *_columns(tile, self._report.fault(tile), len(content) < len(tile)))
+        if status == _REFUSED:
+            return Said(REFUSED, len(tile), *_columns(tile, _fault(tile, told), len(content) < len(tile)))
+        told = bytes(told)
         # The first line has the counts, and those behind it are notes.
         return _accepted(len(tile)) if told.find(b"\n") == len(told) - 1 else Said(ACCEPTED, len(tile), notes=_notes(told))
 
@@ -253,6 +258,21 @@ def _is_tile(content: bytes) -> bool:
     except mvt.Refused:
         return False
     return True
+
+
+def _fault(tile: bytes, told: Any) -> Tuple[Any, ...]:
+    """The layer, its name, the feature, its id, the place, the cause and its name."""
+    layer, feature, at, cause, name = told
+    has_name, has_id, id, _, _, layer_name, _ = located(tile, told)
+    return (
+        None if layer < 0 else layer,
+        layer_name.decode(errors="replace") if has_name else None,
+        None if feature < 0 else feature,
+        str(id) if has_id else None,
+        at,
+        cause,
+        name.decode(),
+    )
 
 
 def _columns(tile: bytes, fault: Tuple[Any, ...], is_packed: bool) -> Tuple[Any, ...]:

@@ -184,8 +184,7 @@ class Handler(BaseHTTPRequestHandler):
         length = self._length(MOST_FRAMED if name in calls.FRAMED else MOST)
         with self.server.turn(self.connection):
             try:
-                with calls.CALLS[name](self._body(length)) as pieces:
-                    self._answer(_BYTES, pieces)
+                self._answer(_BYTES, calls.CALLS[name](self._body(length)))
             except frames.FrameError as why:
                 raise Fault(400, f"The body isn't framed: {why}.") from why
             except MemoryError as why:

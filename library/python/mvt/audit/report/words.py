@@ -2,8 +2,7 @@
 
 from typing import List, NamedTuple, Tuple
 
-from ..._calls import sentence_of
-from ..._library import FaultRow
+from ..._mvt import located
 
 
 def counted(number: int, noun: str) -> str:
@@ -13,7 +12,7 @@ def counted(number: int, noun: str) -> str:
 
 def meaning(cause: int) -> str:
     """What a cause means, by its number."""
-    return sentence_of(FaultRow(layer=-1, feature=-1, cause=cause))
+    return located(b"", (-1, -1, 0, cause, b""))[-1].decode()
 
 
 def marked(start: int, end: int) -> str:

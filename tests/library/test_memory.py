@@ -1,0 +1,157 @@
+"""What the Python module keeps and gives back: many calls leave the process as large as before, and so does each allocation
+that is refused: test_memory.py REFUSING.SO, which is loaded before the C library."""
+
+import ctypes
+import gc
+import sys
+import unittest
+from pathlib import Path
+
+import mvt
+
+TILES = Path(__file__).resolve().parents[2] / "examples" / "tiles"
+TILE = (TILES / "gdal.mvt").read_bytes()
+BROKEN = (TILES / "broken" / "20-ZeroSegment.mvt").read_bytes()
+WHOLE = mvt.read(TILE)
+ROWS = mvt.rows(TILE)
+REFUSING = sys.argv[1] if len(sys.argv) > 1 and sys.argv[1].endswith(".so") else None
+
+
+def built():
+    builder = mvt.Builder().layer("a", extent=512)
+    builder.feature("points", id=7).tag("name", "x").tag("depth", mvt.Float(0.5)).point(1, 2).points([(3, 4)])
+    builder.feature("lines").line([(0, 0), (1, 2)]).tag_at(builder.key("k"), builder.value(-5))
+    builder.feature("polygons").ring([(0, 0), (8, 0), (8, 8)], exterior=True)
+    builder.feature("unknown").integers([9, 2]).foreign(1, bytes.fromhex("78010A0162"))
+    return builder.rows(), builder.finish()
+
+
+def decoded():
+    decoder = mvt.Decoder()
+    for at in range(0, len(TILE), 100):
+        decoder.feed(TILE[at : at + 100])
+    return decoder.finish()
+
+
+def refused_of_decoder():
+    decoder = mvt.Decoder(most=1 << 20)
+    decoder.feed(BROKEN)
+    decoder.rows()
+
+
+def tile_with(**changed):
+    fields = {"id": None, "attributes": {}, "kind": "points", "geometry": [(1, 1)], **changed}
+    return mvt.Tile([mvt.Layer("a", 4096, [mvt.Feature(**fields)])])
+
+
+def looked_at():
+    flat = mvt.rows(TILE)
+    return [flat.text(layer.name) for layer in flat.layers], [flat.line(part) for part in flat.parts], repr(flat.points[0])
+
+
+GOOD = (
+    lambda: mvt.read(TILE),
+    lambda: mvt.read(bytearray(TILE)),
+    lambda: mvt.read_layer(TILE, "water"),
+    lambda: mvt.rows(TILE).layers[0].name.start,
+    lambda: memoryview(mvt.rows(TILE).points).nbytes,
+    looked_at,
+    lambda: mvt.write(WHOLE),
+    lambda: mvt.write(ROWS),
+    lambda: mvt.report(TILE),
+    lambda: mvt.rewrite(TILE),
+    lambda: mvt.to_json(TILE),
+    lambda: mvt.to_svg(TILE),
+    lambda: mvt.extract(TILE, ["water", "roads"]),
+    built,
+    decoded,
+)
+BAD = (
+    lambda: mvt.read(BROKEN),
+    lambda: mvt.judge(BROKEN),
+    lambda: mvt.read("tile"),
+    lambda: mvt.read(TILE, most=10),
+    lambda: mvt.extract(TILE, ["water", "nowhere"]),
+    lambda: mvt.read_layer(TILE, "nowhere"),
+    refused_of_decoder,
+    lambda: mvt.write(tile_with(geometry=[])),
+    lambda: mvt.write(tile_with(geometry=[(1, 1, 1)])),
+    lambda: mvt.write(tile_with(geometry=[(1 << 31, 1)])),
+    lambda: mvt.write(tile_with(attributes={"k": None})),
+    lambda: mvt.write(tile_with(attributes={"k": "\ud800"})),
+    lambda: mvt.write(tile_with(id=-1)),
+    lambda: mvt.write(tile_with(kind="circles")),
+    lambda: mvt.Builder().layer("a").feature("lines").point(1, 1),
+    lambda: ROWS.array("nowhere"),
+)
+# Made once, since nothing can be made where an allocation is refused.
+ERRORS = (mvt.MvtError, TypeError, OverflowError, AttributeError, ImportError, MemoryError)
+
+
+def size():
+    """The bytes of the process that are in memory."""
+    gc.collect()
+    return int(Path("/proc/self/statm").read_text().split()[1]) * 4096
+
+
+def call(each):
+    try:
+        each()
+    except ERRORS:
+        pass
+
+
+class Leaks(unittest.TestCase):
+    def grown(self, calls, rounds):
+        """How much the process grew in so many rounds, after as many as a tenth of them."""
+        for each in calls:
+            for _ in range(rounds // 10):
+                call(each)
+        before = size()
+        for each in calls:
+            for _ in range(rounds):
+                call(each)
+        return size() - before
+
+    def test_good_inputs(self):
+        self.assertLess(self.grown(GOOD, 100_000 // len(GOOD)), 500_000)
+
+    def test_bad_inputs(self):
+        for each in BAD:
+            with self.assertRaises(ERRORS):
+                each()
+        self.assertLess(self.grown(BAD, 100_000 // len(BAD)), 500_000)
+
+
+@unittest.skipIf(REFUSING is None, "no allocator that refuses")
+class Refused(unittest.TestCase):
+    def refused(self, allocator, each):
+        """The call, once for each allocation that is refused. Answers how many were."""
+        count = 0
+        while True:
+            allocator.refuse_after(count)
+            try:
+                each()
+            except ERRORS:
+                pass
+            finally:
+                was_refused = allocator.refuse_none()
+            if not was_refused:
+                return count
+            count += 1
+
+    def test_each_allocation(self):
+        allocator = ctypes.CDLL(REFUSING)
+        collects = gc.isenabled()
+        for each in GOOD + BAD:
+            self.refused(allocator, each)
+            before = size()
+            self.assertGreater(self.refused(allocator, each), 0)
+            self.assertLess(size() - before, 500_000)
+            self.assertEqual(gc.isenabled(), collects)
+        self.assertEqual(mvt.read(TILE), WHOLE)
+        self.assertEqual(mvt.write(WHOLE), mvt.write(ROWS))
+
+
+if __name__ == "__main__":
+    unittest.main(argv=sys.argv[:1])

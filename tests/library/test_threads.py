@@ -1,0 +1,93 @@
+"""The module's calls let Python's lock go while the library works, and threads may share what they make."""
+
+import threading
+import time
+import unittest
+from concurrent.futures import ThreadPoolExecutor
+from pathlib import Path
+
+import mvt
+
+TILES = Path(__file__).resolve().parents[2] / "examples" / "tiles"
+TILE = (TILES / "gdal.mvt").read_bytes()
+MANY = 200_000
+
+
+def large():
+    """A tile that each call works on for a while."""
+    return mvt.Tile([mvt.Layer("a", 4096, [mvt.Feature(n, {"n": n}, "points", [(n % 4096, 1)]) for n in range(MANY)])])
+
+
+class Lock(unittest.TestCase):
+    def ticks(self, call):
+        """How often another thread ran within the call, but for its first and last thousandth of a second."""
+        ran, ends = [], threading.Event()
+
+        def tick():
+            while not ends.is_set():
+                ran.append(time.monotonic())
+                time.sleep(0.0002)
+
+        thread = threading.Thread(target=tick)
+        thread.start()
+        begun = time.monotonic()
+        call()
+        done = time.monotonic()
+        ends.set()
+        thread.join()
+        return sum(begun + 0.001 < at < done - 0.001 for at in ran)
+
+    def test_is_let_go(self):
+        tile = mvt.write(large())
+        rows = mvt.rows(tile)
+        decoder = mvt.Decoder()
+        for call in (
+            lambda: mvt.judge(tile),
+            lambda: mvt.rows(tile),
+            lambda: mvt.rewrite(tile),
+            lambda: mvt.report(tile),
+            lambda: mvt.extract(tile, ["a"]),
+            lambda: mvt.write(rows),
+            lambda: decoder.feed(tile),
+        ):
+            self.assertGreater(self.ticks(call), 0)
+
+
+class Shared(unittest.TestCase):
+    def test_two_at_a_time(self):
+        """Two threads read, write and look at the same rows."""
+        flat, whole, canonical = mvt.rows(TILE), mvt.read(TILE), mvt.rewrite(TILE)
+
+        def work(number):
+            for _ in range(300):
+                self.assertEqual(mvt.read(TILE), whole)
+                self.assertEqual(mvt.write(flat), canonical)
+                self.assertEqual(mvt.write(whole), canonical)
+                self.assertEqual(len([flat.line(part) for part in flat.parts]), len(flat.parts))
+            return number
+
+        with ThreadPoolExecutor(2) as threads:
+            self.assertEqual(list(threads.map(work, range(4))), [0, 1, 2, 3])
+
+    def test_a_builder(self):
+        """Each call of a builder that another thread has finish its tile raises, or is done."""
+        builder = mvt.Builder().layer("a")
+        for number in range(MANY // 10):
+            builder.feature("points", id=number).point(number % 4096, 1)
+        told = []
+
+        def work(_):
+            for _ in range(20):
+                try:
+                    told.append(len(builder.finish()))
+                except mvt.MvtError as why:
+                    self.assertIn("another thread", str(why))
+            return True
+
+        with ThreadPoolExecutor(4) as threads:
+            self.assertTrue(all(threads.map(work, range(4))))
+        self.assertEqual(len(set(told)), 1)
+
+
+if __name__ == "__main__":
+    unittest.main()
