@@ -150,7 +150,7 @@ typedef struct {
 /* What a builder holds whose first call found no memory, so that its later calls say so too. It is never written. */
 static const builder WITHOUT_MEMORY;
 
-/* Finds the builder, which the first call makes, and takes the rows back that it lent. NULL where there is no memory. */
+/* Finds the builder, which the first call makes, and takes back the rows that it lent. NULL for want of memory. */
 static builder *enter(mvt_builder *of) {
     if (of->held == NULL) {
         builder *made = calloc(1, sizeof *made);

@@ -229,7 +229,8 @@ module _ {A : Type 0} (same : A → A → Bool) (decides : (x y : A) → Decides
       test_false : (m n : ℕ) (a b : List A) → n ≤ m → cond (nat_lt m n) a b ≡ b
       test_false m n a b le = search (rules, tests)
 
-module _ {A : Type 0} (same : A → A → Bool) (decides : (x y : A) → Decides (same x y) (x ≡ y)) (old new : List A) (x : A) (distinct : AreDistinct old) where
+module _ {A : Type 0} (same : A → A → Bool) (decides : (x y : A) → Decides (same x y) (x ≡ y)) (old new : List A) (x : A)
+    (distinct : AreDistinct old) where
   -- what is answered of an entry, and what becomes of all that holds the pool
   pub placed_index : (r : Result ℕ AllocError) → IfOk r (λ i. IsPlaced old new x (Ok i)) → IfOk r (λ i. i ≡ place_in same old x)
   placed_index (Ok i) placed = (placed_entry same decides old new x i distinct placed).0

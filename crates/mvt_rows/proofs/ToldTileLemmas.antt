@@ -61,19 +61,24 @@ rows_added {f = f} {L = L} {row = row} adds t (x ∷ xs) (y ∷ ys) all =
 -- ---- the parts of a feature
 
 parts_are : (front : List PointRow) (parts : List ToldPart) (back : List PointRow)
-    → AreRelated (λ row (p : ToldPart). line_of (front ++ (points_in parts ++ back)) row ≡ Some (line_told p)) (part_rows (length front) parts) parts
+    → AreRelated (λ row (p : ToldPart). line_of (front ++ (points_in parts ++ back)) row ≡ Some (line_told p))
+    (part_rows (length front) parts) parts
 parts_are front [] back = tt
 parts_are front (p ∷ parts) back =
     let held = front ++ ((p.points ++ points_in parts) ++ back) in
-    let split : held ≡ front ++ (p.points ++ (points_in parts ++ back)) = ap (λ l. front ++ l) (append_assoc p.points (points_in parts) back) in
-    let first : line_of held (record { exterior = 0; points = record { start = length front; len = length p.points } }) ≡ Some (line_told p) =
+    let split : held ≡ front ++ (p.points ++ (points_in parts ++ back)) =
+    ap (λ l. front ++ l) (append_assoc p.points (points_in parts) back) in
+    let first : line_of held (record { exterior = 0; points = record { start = length front; len = length p.points } })
+    ≡ Some (line_told p) =
     ap (option_map (λ rows. map point_of rows))
     (part_is held front p.points (points_in parts ++ back) split (length front) (length p.points) refl refl) in
-    let joined : (front ++ p.points) ++ (points_in parts ++ back) ≡ held = append_assoc front p.points (points_in parts ++ back) ∙ sym split in (
+    let joined : (front ++ p.points) ++ (points_in parts ++ back) ≡ held =
+    append_assoc front p.points (points_in parts ++ back) ∙ sym split in (
       first,
       subst (λ n. AreRelated (λ row (q : ToldPart). line_of held row ≡ Some (line_told q)) (part_rows n parts) parts)
           (length-append front p.points)
-          (subst (λ l. AreRelated (λ row (q : ToldPart). line_of l row ≡ Some (line_told q)) (part_rows (length (front ++ p.points)) parts) parts)
+          (subst (λ l. AreRelated (λ row (q : ToldPart). line_of l row ≡ Some (line_told q))
+          (part_rows (length (front ++ p.points)) parts) parts)
           joined (parts_are (front ++ p.points) parts back)),
     )
 
@@ -99,7 +104,8 @@ rings_are points start polygons (p ∷ parts) h =
     ap (option_and_then (λ ring. option_and_then (λ exterior. with_ring polygons exterior ring) (truth_of row.exterior))) h.0
     ∙ ap (option_and_then (λ exterior. with_ring polygons exterior (line_told p))) (truth_back p.exterior) in
     ap (option_and_then (λ next. steps (with_ring_row points) next (part_rows (start + length p.points) parts))) one
-    ∙ then_alike (λ next. steps (with_ring_row points) next (part_rows (start + length p.points) parts)) (λ next. steps with_ring_told next parts)
+    ∙ then_alike (λ next. steps (with_ring_row points) next (part_rows (start + length p.points) parts))
+    (λ next. steps with_ring_told next parts)
     (λ next. rings_are points (start + length p.points) next parts h.1) (with_ring_told polygons p)
 
 points_are : (points : List PointRow) (start : ℕ) (parts : List ToldPart)

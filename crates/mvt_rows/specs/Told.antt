@@ -115,7 +115,8 @@ layer_in (InPart l f p) = Some l
 -- a value as it was given: of a text the bits aren't looked at, and of a number the text
 abbrev pub given_of : AnyValue → Given
 given_of value =
-    if value.kind == 1 then record { kind = 1; bits = 0; text = value.text.now } else record { kind = value.kind; bits = value.bits; text = [] }
+    if value.kind == 1 then record { kind = 1; bits = 0; text = value.text.now }
+    else record { kind = value.kind; bits = value.bits; text = [] }
 
 -- the same text, the same value
 abbrev pub same_given : Given → Given → Bool

@@ -47,7 +47,10 @@ with_told_feature t f = record (with_drawn t f) { features = t.features ++ told_
 abbrev pub with_given : Table → Given → Table
 with_given t value =
     if value.kind == 1
-    then record t { values = t.values ++ record { kind = 1; bits = 0; text = behind t.texts (length value.text) } ∷ []; texts = t.texts ++ value.text }
+    then record t {
+      values = t.values ++ record { kind = 1; bits = 0; text = behind t.texts (length value.text) } ∷ [];
+      texts = t.texts ++ value.text;
+    }
     else with_number t value.kind value.bits
 
 -- a table and the features of a layer more

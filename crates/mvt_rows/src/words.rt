@@ -1,5 +1,5 @@
-//! The keys and the values of a layer that is built, as they were given: a text that isn't UTF-8 and
-//! a number that no value has are kept too, so that the tile is refused as a whole.
+//! The keys and the values of a layer that is built, as they were given: a text that isn't UTF-8
+//! and a number that no value has are kept too, so that the tile is refused as a whole.
 ghost use Rattle.std.specs.Prelude.{◌≡◌, [], IfOk, OnOk};
 ghost use Rattle.mvt_rows.specs.Told.{given_of};
 

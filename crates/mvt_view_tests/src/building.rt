@@ -22,8 +22,8 @@ const NUMBERS: [u8; 82] = [
     0x80, 0x20,
 ];
 
-// Layer `b` with the tag `name: "x"` on the points (0, 0) and (1, 1), whose id is 7, and on the line
-// from (0, 0) to (2, 2), and with the ring (0, 0), (1, 0), (1, 1); then a layer of version 1.
+// Layer `b` with the tag `name: "x"` on the points (0, 0) and (1, 1), whose id is 7, and on the
+// line from (0, 0) to (2, 2), and with the ring (0, 0), (1, 0), (1, 1); then a layer of version 1.
 const ALL: [u8; 73] = [
     0x1A, 0x43, 0x78, 0x02, 0x0A, 0x01, 0x62, 0x12, 0x0F, 0x08, 0x07, 0x12, 0x02, 0x00, 0x00, 0x18,
     0x01, 0x22, 0x05, 0x11, 0x00, 0x00, 0x02, 0x02, 0x12, 0x0E, 0x12, 0x02, 0x00, 0x00, 0x18, 0x02,

@@ -15,7 +15,8 @@ returns-clause-index c =
 pub returns-clause-added : goal.returns-clause-added
 returns-clause-added c =
     let with_pool : List Given → Builder = λ pool. record c.args.self.now { value = c.set.new.self; values = pool } in
-    subst (λ (x : Given). OnOk c.index_of.result (with_pool c.index_of.new.pool ≡ with_pool (with_entry same_given c.args.self.now.values x)))
+    subst (λ (x : Given). OnOk c.index_of.result
+    (with_pool c.index_of.new.pool ≡ with_pool (with_entry same_given c.args.self.now.values x)))
     c.in_ok-set.ensures
     (placed_in same_given same_given-decides c.args.self.now.values c.index_of.new.pool c.set.new.self c.index_of.ensures.distinct
     with_pool c.index_of.result c.index_of.ensures.placed)
