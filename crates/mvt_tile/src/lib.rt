@@ -1,4 +1,4 @@
-//! Mapbox vector tiles: reading, writing, streaming, extraction, notes.
+//! Mapbox vector tiles: reading, writing, streaming, extraction, notes, findings.
 //!
 //! What a tile is made of is handed up here, so a caller names this crate alone.
 #![tactic(auto)]
@@ -38,7 +38,8 @@ pub use mvt_geometry::{Geometry, Kind, Point, Polygon};
 pub use mvt_io::{Host, Sink, Source};
 pub use mvt_message::{Item, Layer, PutError};
 pub use mvt_tile_value::{
-    Note, Survey, Tile, WriteError, encode, feature_count, notes, numbers, write_tile,
+    Finding, Note, Survey, Tile, WriteError, encode, feature_count, lint, notes, numbers,
+    write_tile,
 };
 pub use name_set::NameSet;
 pub use reading::read_tile;

@@ -1,6 +1,7 @@
 //! Known tiles and faults, made tiles, pieces, devices, refused growths.
 mod devices;
 mod faults;
+mod findings;
 mod making;
 mod refused;
 mod refused_rows;

@@ -5,5 +5,6 @@ mod ComparingLemmas
 mod BeginningLemmas
 mod IdLemmas
 mod NoteLemmas
+mod LintLemmas
 mod RingLemmas
 mod SurveyLemmas

@@ -15,7 +15,7 @@ use Rattle.mvt_tile_value.specs.declared.note.Note.TheVariants.{NoLayers}
 use Rattle.mvt_tile_value.specs.declared.tile.Tile.{Tile}
 use Rattle.mvt_tile_value.specs.Notes.{numbered, note_if, is_id, first_of, earlier_note, id_note, geometry_notes, feature_notes, item_notes, notes_of}
 
-pub numbered-append : {A : Type 0} (f : ℕ → A → List Note) (n : ℕ) (xs ys : List A)
+pub numbered-append : {A B : Type 0} (f : ℕ → A → List B) (n : ℕ) (xs ys : List A)
     → numbered f n (xs ++ ys) ≡ numbered f n xs ++ numbered f (n + length xs) ys
 numbered-append f n [] ys = ap (λ k. numbered f k ys) (sym (add-zero n))
 numbered-append f n (x ∷ xs) ys =
@@ -29,7 +29,7 @@ after_head true n o t r e = refl
 after_head false n o t r e = e
 
 -- one element more
-pub noted_more : {A : Type 0} (f : ℕ → A → List Note) (n : ℕ) (xs : List A) (i : ℕ) (x : A) (k : ℕ) (start old new : List Note)
+pub noted_more : {A B : Type 0} (f : ℕ → A → List B) (n : ℕ) (xs : List A) (i : ℕ) (x : A) (k : ℕ) (start old new : List B)
     → i < length xs → x ≡ get_or xs i x → k ≡ n + i
     → old ≡ start ++ numbered f n (take i xs) → new ≡ old ++ f k x → new ≡ start ++ numbered f n (take (i + 1) xs)
 noted_more f n xs i x k start old new h is at so_far e =

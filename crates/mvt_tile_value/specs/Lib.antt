@@ -6,6 +6,7 @@ pub mod Writing
 pub mod Comparing
 pub mod Beginning
 pub mod Notes
+pub mod Lint
 pub mod Survey
 pub mod FirstIds
 pub mod Rings

@@ -16,12 +16,12 @@ use Rattle.mvt_tile_value.specs.declared.note.Note.TheVariants.{NoLayers, Foreig
 use Rattle.mvt_tile_value.specs.declared.tile.Tile.{Tile}
 
 -- what is noted of each element, which is numbered
-abbrev pub numbered : {A : Type 0} → (ℕ → A → List Note) → ℕ → List A → List Note
+abbrev pub numbered : {A B : Type 0} → (ℕ → A → List B) → ℕ → List A → List B
 numbered noted n [] = []
 numbered noted n (x ∷ xs) = noted n x ++ numbered noted (n + 1) xs
 
 -- a note where a test holds
-abbrev pub note_if : Bool → Note → List Note
+abbrev pub note_if : {A : Type 0} → Bool → A → List A
 note_if test note = if test then note ∷ [] else []
 
 -- a ring without area

@@ -1,13 +1,15 @@
-//! A tile as a value: its canonical bytes and the writing of them, what is noted of it, and what a
-//! survey says of it. Tiles are read in mvt_tile, which hands up what is here.
+//! A tile as a value: its canonical bytes and the writing of them, what is noted and what is found
+//! of it, and what a survey says of it. Tiles are read in mvt_tile, which hands up what is here.
 #![tactic(auto)]
 
 mod beginning;
 mod comparing;
 mod encoding;
+mod finding;
 mod first_ids;
 pub mod laws;
 mod layer_noting;
+mod linting;
 mod note;
 mod noting;
 pub mod numbers;
@@ -19,6 +21,8 @@ mod write_error;
 mod writing;
 
 pub use encoding::{encode, encode_payload};
+pub use finding::Finding;
+pub use linting::lint;
 pub use note::Note;
 pub use noting::notes;
 pub use survey::Survey;

@@ -1,4 +1,4 @@
-use Rattle.std.proofs.Common.{ℕ, [], ◌∷◌, arith, List, length, refl, ap, sym, subst}
+use Rattle.std.proofs.Common.{[], ◌∷◌, arith, List, length, refl, ap, sym, subst}
 use Rattle.mvt_message.specs.declared.item.Item.{Item}
 use Rattle.mvt_message.specs.declared.item.Item.TheVariants.{Layer, Foreign}
 use Rattle.mvt_message.specs.Items.{IsItem}
