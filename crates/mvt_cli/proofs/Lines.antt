@@ -36,6 +36,10 @@ pub explain_alone : (name : List ℕ) → fault_of mvt (name ∷ codes "explain"
 unfolding clap_on_literals mvt extract_app files_app
 explain_alone name = refl
 
+pub lint_alone : (name : List ℕ) → fault_of mvt (name ∷ codes "lint" ∷ []) ≡ []
+unfolding clap_on_literals mvt extract_app files_app
+lint_alone name = refl
+
 pub rewrite_alone : (name : List ℕ) → fault_of mvt (name ∷ codes "rewrite" ∷ []) ≡ []
 unfolding clap_on_literals mvt extract_app files_app
 rewrite_alone name = refl
@@ -50,7 +54,8 @@ bare_alone name word (inr (inl h)) = ap (λ w. fault_of mvt (name ∷ w ∷ []))
 bare_alone name word (inr (inr (inl h))) = ap (λ w. fault_of mvt (name ∷ w ∷ [])) h ∙ draw_alone name
 bare_alone name word (inr (inr (inr (inl h)))) = ap (λ w. fault_of mvt (name ∷ w ∷ [])) h ∙ check_alone name
 bare_alone name word (inr (inr (inr (inr (inl h))))) = ap (λ w. fault_of mvt (name ∷ w ∷ [])) h ∙ explain_alone name
-bare_alone name word (inr (inr (inr (inr (inr h))))) = ap (λ w. fault_of mvt (name ∷ w ∷ [])) h ∙ rewrite_alone name
+bare_alone name word (inr (inr (inr (inr (inr (inl h)))))) = ap (λ w. fault_of mvt (name ∷ w ∷ [])) h ∙ lint_alone name
+bare_alone name word (inr (inr (inr (inr (inr (inr h)))))) = ap (λ w. fault_of mvt (name ∷ w ∷ [])) h ∙ rewrite_alone name
 
 -- a list that isn't empty is given to clap
 pub given_to_clap : {A : Type 0} → (text : A → List ℕ) (words : List A) → (length words == 0) ≡ false

@@ -5,7 +5,7 @@ use Rattle.clap.specs.Words.{App, Row, Rule, new_app, new_rule, all_of, with_rul
 use Rattle.clap.specs.Kinds.{Kinds}
 use Rattle.clap.specs.declared.builder.action.ArgAction.TheVariants.{Append}
 use Rattle.mvt_tasks.specs.declared.task.Task.{Task}
-use Rattle.mvt_tasks.specs.declared.task.Task.TheVariants.{Fields, Show, Draw, Check, Explain, Rewrite, Extract}
+use Rattle.mvt_tasks.specs.declared.task.Task.TheVariants.{Fields, Show, Draw, Check, Explain, Lint, Rewrite, Extract}
 
 -- the names of layers: one or more
 abbrev pub names_rule : Rule
@@ -41,9 +41,11 @@ mvt =
     with_subcommand
     (with_bare
     (with_subcommand
+    (with_subcommand
     (with_subcommand (with_bare (with_bare (with_bare (new_app (codes "mvt")) (codes "fields")) (codes "show"))
     (codes "draw")) (files_app (codes "check")).top)
     (files_app (codes "explain")).top)
+    (files_app (codes "lint")).top)
     (codes "rewrite"))
     extract_app.top
 
@@ -72,9 +74,10 @@ task_named name rows =
     else (if bytes_eq name (codes "show") then Show
     else (if bytes_eq name (codes "draw") then Draw
     else (if bytes_eq name (codes "explain") then Explain
+    else (if bytes_eq name (codes "lint") then Lint
     else (if bytes_eq name (codes "rewrite") then Rewrite
     else (if bytes_eq name (codes "extract") then Extract (names_given rows)
-    else Check)))))
+    else Check))))))
 
 -- of a line without a subcommand `check`
 abbrev pub task_of_subcommand : Option (List ℕ × List Row) → Task
@@ -89,21 +92,22 @@ task_in words = task_of_subcommand (subcommand_in words)
 abbrev pub files_named : List ℕ → List Row → List (List ℕ)
 files_named name rows =
     if bytes_eq name (codes "check") then texts_given (codes "file") rows
-    else (if bytes_eq name (codes "explain") then texts_given (codes "file") rows else [])
+    else (if bytes_eq name (codes "explain") then texts_given (codes "file") rows
+    else (if bytes_eq name (codes "lint") then texts_given (codes "file") rows else []))
 
 -- the names of files in a line
 abbrev pub files_of_subcommand : Option (List ℕ × List Row) → List (List ℕ)
 files_of_subcommand None = []
 files_of_subcommand (Some (name, rows)) = files_named name rows
 
--- the files that the words name; where there are some, these are checked or explained, and not the input
+-- the files that the words name; where there are some, these are checked, explained or linted, and not the input
 abbrev pub files_in : List (List ℕ) → List (List ℕ)
 files_in words = files_of_subcommand (subcommand_in words)
 
 -- the subcommands that take no words of their own
 abbrev pub IsBare : List ℕ → Type 0
 IsBare word = (word ≡ codes "fields")
-    ⊎ ((word ≡ codes "show") ⊎ ((word ≡ codes "draw") ⊎ ((word ≡ codes "check") ⊎ ((word ≡ codes "explain") ⊎ (word ≡ codes "rewrite")))))
+    ⊎ ((word ≡ codes "show") ⊎ ((word ≡ codes "draw") ⊎ ((word ≡ codes "check") ⊎ ((word ≡ codes "explain") ⊎ ((word ≡ codes "lint") ⊎ (word ≡ codes "rewrite"))))))
 
 -- a line that is never refused: nothing, the program's name, or its name and a subcommand without
 -- names

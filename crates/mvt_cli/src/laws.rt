@@ -13,6 +13,7 @@ pub fn lines_ask()
     ensures draw { (name : List ℕ) → task_in (name ∷ codes "draw" ∷ []) ≡ Task.Draw }
     ensures check { (name : List ℕ) → task_in (name ∷ codes "check" ∷ []) ≡ Task.Check }
     ensures explain { (name : List ℕ) → task_in (name ∷ codes "explain" ∷ []) ≡ Task.Explain }
+    ensures lint { (name : List ℕ) → task_in (name ∷ codes "lint" ∷ []) ≡ Task.Lint }
     ensures rewrite { (name : List ℕ) → task_in (name ∷ codes "rewrite" ∷ []) ≡ Task.Rewrite }
     ensures extract { (name : List ℕ)
         → task_in (name ∷ codes "extract" ∷ codes "b" ∷ codes "a" ∷ [])
@@ -26,6 +27,9 @@ pub fn lines_name_files()
         ≡ codes "b" ∷ codes "a" ∷ [] }
     ensures files_explained { (name : List ℕ)
         → files_in (name ∷ codes "explain" ∷ codes "b" ∷ codes "a" ∷ [])
+        ≡ codes "b" ∷ codes "a" ∷ [] }
+    ensures files_linted { (name : List ℕ)
+        → files_in (name ∷ codes "lint" ∷ codes "b" ∷ codes "a" ∷ [])
         ≡ codes "b" ∷ codes "a" ∷ [] }
     ensures hyphens { (name : List ℕ)
         → files_in (name ∷ codes "check" ∷ codes "--" ∷ codes "-b" ∷ [])

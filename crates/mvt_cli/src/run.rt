@@ -7,7 +7,7 @@ ghost use Rattle.mvt_tasks.specs.declared.failure.Failure.TheVariants.{Write as 
 ghost use Rattle.mvt_tasks.specs.declared.reply.Reply.{Reply as AReply};
 ghost use Rattle.mvt_tasks.specs.Checks.{Prints, SaysOf, TellsFiles, run_state};
 ghost use Rattle.mvt_tasks.specs.Failures.{EndsFailed, FailsReading, line_of, status_of};
-ghost use Rattle.mvt_tasks.specs.Output.{GivesReply, HasOutput, IsReplyTo, PutOut, PutsText, ReadsNoFurther};
+ghost use Rattle.mvt_tasks.specs.Output.{GivesReply, HasOutput, IsGiven, IsReplyTo, PutOut, PutsText, ReadsNoFurther};
 ghost use Rattle.mvt_tasks.specs.Visits.{OneAtATime};
 ghost use Rattle.mvt_cli.specs.Words.{task_in, faults_in, files_in};
 ghost use Rattle.mvt_cli.specs.Refused.{IsUsage, usage_text};
@@ -20,9 +20,11 @@ use std::alloc::Global;
 
 /// Runs the program on the words of its command line, the first of which is its name, and answers
 /// its status: 0 where all went well, 1 where the tile is refused, 2 where the words are, 3 where a
-/// read or a write failed, 4 for want of memory. Faults of `errors` are ignored.
+/// read or a write failed, 4 for want of memory, 5 where something was found of a tile that is
+/// linted. Faults of `errors` are ignored.
 ///
-/// Where the words name files, these are checked or explained, and the reader isn't touched.
+/// Where the words name files, these are checked, explained or linted, and the reader isn't
+/// touched.
 pub fn run<F: Folder, R: Source, W: Sink, E: Sink>(
     alloc: Global,
     words: &[String],
@@ -32,14 +34,14 @@ pub fn run<F: Folder, R: Source, W: Sink, E: Sink>(
     errors: &mut E,
 ) -> u8
     // Without files the task of the words is run, and the folder is left as it was.
-    ensures done { files_in (map string_bytes words.now) ≡ [] → result < 2 → (reply : AReply)
+    ensures done { files_in (map string_bytes words.now) ≡ [] → IsGiven result → (reply : AReply)
         × IsReplyTo LIMIT (task_in (map string_bytes words.now)) (R.state reader.old).left reply
         × HasOutput reply
         × GivesReply result (writer.new ≡ writer.old)
         (PutOut (W.state writer.old) (W.state writer.new)) (errors.new ≡ errors.old)
         (Prints (E.state errors.old) (E.state errors.new)) reply }
-    ensures failed { files_in (map string_bytes words.now) ≡ [] → 2 < result → (failure : AFailure)
-        × (result ≡ status_of failure)
+    ensures failed { files_in (map string_bytes words.now) ≡ [] → 2 < result → result < 5
+        → (failure : AFailure) × (result ≡ status_of failure)
         × Prints (E.state errors.old) (E.state errors.new) (line_of failure)
         × ((FailsReading (R.state reader.old).faults (R.state reader.new).faults failure
         × (writer.new ≡ writer.old))
@@ -66,7 +68,7 @@ pub fn run<F: Folder, R: Source, W: Sink, E: Sink>(
     ensures apart { (files_in (map string_bytes words.now) ≡ [] → folder.new ≡ folder.old)
         × (files_in (map string_bytes words.now) ≢ [] → reader.new ≡ reader.old) }
 
-    ensures sound { result < 2 → NoneFailed (R.state reader.old).faults (R.state reader.new).faults
+    ensures sound { IsGiven result → NoneFailed (R.state reader.old).faults (R.state reader.new).faults
         × NoneFailed (W.state writer.old).faults (W.state writer.new).faults }
 
     // A refused line touches nothing but the error stream, and no other line is refused.
@@ -75,7 +77,7 @@ pub fn run<F: Folder, R: Source, W: Sink, E: Sink>(
         × (writer.new ≡ writer.old) }
     ensures usage { result ≡ 2 → (faults_in (map string_bytes words.now) ≢ [])
         × ((text : List ℕ) × Prints (E.state errors.old) (E.state errors.new) text) }
-    ensures statuses { result < 5 }
+    ensures statuses { result < 6 }
 {
     let Asked { task, files } = match read_words(alloc, words) {
         Ok(asked) => asked,

@@ -68,6 +68,12 @@ fn mvt_command<'a>(alloc: Global) -> Result<Command<'a>, AllocError>
         "Checks the tile, or each of the files, and says where and why it is refused",
         "The name of a file to explain in place of the input",
     )?;
+    let lint = files_command(
+        alloc,
+        "lint",
+        "Says what viewers stumble over in the tile, or in each of the files",
+        "The name of a file to lint in place of the input",
+    )?;
     let rewrite = bare_command(alloc, "rewrite", "Writes the tile in its canonical form");
     let extract = extract_command(alloc)?;
     Command::new(alloc, "mvt")
@@ -77,6 +83,7 @@ fn mvt_command<'a>(alloc: Global) -> Result<Command<'a>, AllocError>
         .subcommand(draw)?
         .subcommand(check)?
         .subcommand(explain)?
+        .subcommand(lint)?
         .subcommand(rewrite)?
         .subcommand(extract)
 }
@@ -178,6 +185,7 @@ fn task_named(alloc: Global, name: &str, given: &ArgMatches<'_>) -> Result<Task,
         "show" => Ok(Task::Show),
         "draw" => Ok(Task::Draw),
         "explain" => Ok(Task::Explain),
+        "lint" => Ok(Task::Lint),
         "rewrite" => Ok(Task::Rewrite),
         "extract" => Ok(Task::Extract(texts_of(alloc, given, "name")?)),
         _ => Ok(Task::Check),
@@ -201,6 +209,7 @@ fn files_named(alloc: Global, name: &str, given: &ArgMatches<'_>) -> Result<Name
     match name {
         "check" => texts_of(alloc, given, "file"),
         "explain" => texts_of(alloc, given, "file"),
+        "lint" => texts_of(alloc, given, "file"),
         _ => Ok(Names::new(Vec::new(alloc))),
     }
 }

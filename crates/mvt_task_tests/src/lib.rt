@@ -9,6 +9,8 @@ mod expect;
 #[cfg(test)]
 mod folders;
 #[cfg(test)]
+mod linting;
+#[cfg(test)]
 mod refused;
 #[cfg(test)]
 mod support;

@@ -43,13 +43,14 @@ pub(super) const NO_WIRE_TYPE_EXPLAINED: &str = "byte 0, tag byte 0x1b: field 3,
     0  [1b]\n";
 
 // Each command, and its output for the tile of one point.
-pub(super) fn point_written() -> [(Command, &'static [u8]); 7] {
+pub(super) fn point_written() -> [(Command, &'static [u8]); 8] {
     [
         (Command::Fields, POINT_LISTED.as_bytes()),
         (Command::Show, POINT_SHOWN.as_bytes()),
         (Command::Draw, POINT_DRAWN.as_bytes()),
         (Command::Check, POINT_CHECKED.as_bytes()),
         (Command::Explain, POINT_CHECKED.as_bytes()),
+        (Command::Lint, b""),
         (Command::Rewrite, ONE_POINT),
         (Command::Extract(&["a"]), ONE_POINT),
     ]
@@ -63,6 +64,7 @@ pub(super) enum Command {
     Draw,
     Check,
     Explain,
+    Lint,
     Rewrite,
     Extract(&'static [&'static str]),
 }
@@ -82,6 +84,7 @@ pub(super) fn task_of(alloc: Global, command: Command) -> Result<Task, AllocErro
         Command::Draw => Ok(Task::Draw),
         Command::Check => Ok(Task::Check),
         Command::Explain => Ok(Task::Explain),
+        Command::Lint => Ok(Task::Lint),
         Command::Rewrite => Ok(Task::Rewrite),
         Command::Extract(names) => Ok(Task::Extract(Names::new(names_of(alloc, names)?))),
     }

@@ -1,11 +1,12 @@
 -- What is said of files, one after another.
-use Rattle.std.proofs.Common.{◌≡◌, ℕ, ◌+◌, ◌<◌, ◌≤◌, inl, inr, Bool, cond, List, [], ◌∷◌, ◌++◌, length, map, take, Option, Some, None, Result, Ok, Err, IfErr, refl, sym, ap, ap₂, subst, ◌∙◌, append_assoc, append-nil, zero-add, suc, arith}
+use Rattle.std.proofs.Common.{◌≡◌, ℕ, ◌+◌, ◌<◌, ◌≤◌, inl, inr, Bool, true, false, ◌||◌, cond, List, [], ◌∷◌, ◌++◌, length, map, take, Option, Some, None, Result, Ok, Err, IfErr, refl, sym, ap, ap₂, subst, ◌∙◌, append_assoc, append-nil, zero-add, suc, arith}
 use Rattle.std.proofs.lemmas.List.{map-append, length-append}
 use Rattle.std.proofs.Math.Seq.{take-append-add}
 use Rattle.std.proofs.lemmas.List.Sums.{sum_by-append}
 use Rattle.std.proofs.lemmas.Grind.{common_steps, flat_map-append}
 use Rattle.std.proofs.KnownBytes.{Appends-nil, Appends-trans}
-use Rattle.std.specs.List.{flat_map}
+use Rattle.std.specs.List.{flat_map, list_any}
+use Rattle.std.proofs.lemmas.List.Folds.{list_any-append}
 use Rattle.std.specs.Prelude.{IfSome}
 use Rattle.std.specs.Io.KnownBytes.{Appends, Keeps}
 use Rattle.mvt_base.proofs.ListLemmas.{related-append, length-related}
@@ -18,9 +19,9 @@ use Rattle.mvt_tasks.specs.declared.folder.Visit.{Visit}
 use Rattle.mvt_tasks.specs.declared.reply.Reply.{Reply}
 use Rattle.mvt_tasks.specs.declared.tally.Tally.{Tally}
 use Rattle.mvt_tasks.specs.declared.tally.Verdict.{Verdict}
-use Rattle.mvt_tasks.specs.declared.tally.Verdict.TheVariants.{Accepted, Refused, Unread}
+use Rattle.mvt_tasks.specs.declared.tally.Verdict.TheVariants.{Accepted, Found, Refused, Unread}
 use Rattle.mvt_tasks.specs.Visits.{AddsAll, IsNext, OneAtATime}
-use Rattle.mvt_tasks.specs.Checks.{AreChecked, Checked, EndsEarly, IsLater, IsFileReply, ReportsFiles, ReportsFile, RunState, TakesUntil, Prints, count_of, is_accepted, is_refused, is_unread, tally_of, printed_of, verdict_of, visit_of, written_of}
+use Rattle.mvt_tasks.specs.Checks.{AreChecked, Checked, EndsEarly, IsLater, IsFileReply, ReportsFiles, ReportsFile, RunState, TakesUntil, Prints, count_of, is_accepted, is_found, is_refused, is_unread, tally_of, printed_of, verdict_of, visit_of, written_of}
 
 -- ---- the error stream
 
@@ -71,6 +72,7 @@ one_more_then a b c (fewer, most) (less, more) = (omega arith, grind (arith, com
 
 counts_all : (v : Verdict) → cond (is_accepted v) 1 0 + cond (is_refused v) 1 0 + cond (is_unread v) 1 0 ≡ 1
 counts_all Accepted = refl
+counts_all Found = refl
 counts_all Refused = refl
 counts_all Unread = refl
 
@@ -110,7 +112,7 @@ said_held Says None left reply opened says = tt
 said_held Says (Some bytes) left reply opened says = subst (λ (o : Option (List ℕ)). IfSome o (λ input. Says input reply)) opened says
 
 pub said_none : (Says : List ℕ → Reply → Type 0) (holds : List ℕ → Option (List ℕ)) (now : RunState) (tally : Tally)
-    → tally ≡ record { accepted = 0; refused = 0; unread = 0 } → ReportsFiles Says holds [] now now [] tally
+    → tally ≡ record { accepted = 0; refused = 0; unread = 0; has_findings = false } → ReportsFiles Says holds [] now now [] tally
 said_none Says holds now tally is = record {
   files = [];
   checked = tt;
@@ -120,11 +122,25 @@ said_none Says holds now tally is = record {
   counted = is;
 }
 
+-- whether something was found of a file
+abbrev any_found : List Checked → Bool
+any_found files = list_any (λ (file : Checked). is_found (verdict_of file.reply)) files
+
+or_false : (b : Bool) → (b || false) ≡ b
+or_false true = refl
+or_false false = refl
+
+any_more : (files : List Checked) (f : Checked) → any_found (files ++ f ∷ []) ≡ any_found files || is_found (verdict_of f.reply)
+any_more files f =
+    list_any-append (λ (file : Checked). is_found (verdict_of file.reply)) files (f ∷ [])
+    ∙ ap (λ b. any_found files || b) (or_false (is_found (verdict_of f.reply)))
+
 -- a tally with one verdict more
 pub record IsAdded (old new : Tally) (verdict : Verdict) : Type 0 where
   pub accepted : new.accepted ≡ old.accepted + cond (is_accepted verdict) 1 0
   pub refused : new.refused ≡ old.refused + cond (is_refused verdict) 1 0
   pub unread : new.unread ≡ old.unread + cond (is_unread verdict) 1 0
+  pub found : new.has_findings ≡ old.has_findings || is_found verdict
 
 counted_more : (files : List Checked) (file : Checked) (old new : Tally) (verdict : Verdict)
     → old ≡ tally_of files → verdict ≡ verdict_of file.reply → IsAdded old new verdict → new ≡ tally_of (files ++ file ∷ [])
@@ -138,7 +154,16 @@ counted_more files file old new verdict counted judged adds =
     let u : new.unread ≡ count_of is_unread (files ++ file ∷ []) =
     adds.unread ∙ ap₂ (λ (t : Tally) (v : Verdict). t.unread + cond (is_unread v) 1 0) counted judged
     ∙ sym (count_more is_unread files file) in
-    ap₂ (λ (x : ℕ) (p : ℕ × ℕ). record { accepted = x; refused = p.0; unread = p.1 }) a (ap₂ (λ (y z : ℕ). (y, z)) r u)
+    let f : new.has_findings ≡ any_found (files ++ file ∷ []) =
+    adds.found ∙ ap₂ (λ (t : Tally) (v : Verdict). t.has_findings || is_found v) counted judged ∙ sym (any_more files file) in
+    ap₂ (λ (p q : ℕ × ℕ). record { accepted = p.0; refused = p.1; unread = q.0; has_findings = new.has_findings })
+    (ap₂ (λ (x y : ℕ). (x, y)) a r) (ap (λ (x : ℕ). (x, 0)) u)
+    ∙ ap (λ (b : Bool). record {
+      accepted = count_of is_accepted (files ++ file ∷ []);
+      refused = count_of is_refused (files ++ file ∷ []);
+      unread = count_of is_unread (files ++ file ∷ []);
+      has_findings = b;
+    }) f
 
 -- one file more
 pub said_more : (Says : List ℕ → Reply → Type 0) (holds : List ℕ → Option (List ℕ)) (names : List (List ℕ)) (name : List ℕ)

@@ -1,5 +1,5 @@
 -- The first bytes of an input, one more than the limit, tell the same as the whole of it.
-use Rattle.std.proofs.Common.{◌≡◌, ℕ, ◌+◌, ◌≤◌, inl, inr, List, length, take, min, nat_lt, sym, ap, ap₂, subst, ◌∙◌, arith, Option, Some, None, Bool, true}
+use Rattle.std.proofs.Common.{◌≡◌, ℕ, ◌+◌, ◌≤◌, inl, inr, List, length, take, min, nat_lt, sym, ap, ap₂, subst, ◌∙◌, arith, Option, Some, None, Bool, false, true}
 use Rattle.std.proofs.lemmas.List.{length-take, take_all}
 use Rattle.std.proofs.lemmas.Bool.{cases_lt}
 use Rattle.std.proofs.lemmas.Bool.Decides.{nat_tests}
@@ -46,7 +46,7 @@ pub listed : (limit : ℕ) (left : Option (List ℕ)) (bytes slice : List ℕ) (
 listed limit None bytes slice reply read same is = tt
 listed limit (Some input) bytes slice reply read same is =
     is ∙ ap (fields_reply limit) (same ∙ read)
-    ∙ ap₂ (λ text printed. record { output = Some text; error_line = option_map (λ f. fault_line f ++ codes "\n") printed })
+    ∙ ap₂ (λ text printed. record { output = Some text; error_line = option_map (λ f. fault_line f ++ codes "\n") printed; has_findings = false })
     (front_reports_lines limit input) (front_reports_fault limit input)
 
 printed-front : (limit : ℕ) (input : List ℕ) (reply : Reply) → IsReply limit Check (take (limit + 1) input) reply

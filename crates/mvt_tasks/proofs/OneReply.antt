@@ -8,8 +8,8 @@ use Rattle.mvt_tile.specs.TileRules.{fault_within}
 use Rattle.mvt_tile_value.specs.Tiles.{IsTile}
 use Rattle.mvt_tasks.specs.declared.reply.Reply.{Reply}
 use Rattle.mvt_tasks.specs.declared.task.Task.{Task}
-use Rattle.mvt_tasks.specs.declared.task.Task.TheVariants.{Fields, Show, Draw, Check, Explain, Rewrite, Extract}
-use Rattle.mvt_tasks.specs.Output.{IsReply, IsJudged, IsPrinted, fault_reply, fields_reply, bytes_reply, layers_reply, done, json_lines, svg_lines, check_lines, told_why}
+use Rattle.mvt_tasks.specs.declared.task.Task.TheVariants.{Fields, Show, Draw, Check, Explain, Lint, Rewrite, Extract}
+use Rattle.mvt_tasks.specs.Output.{IsReply, IsJudged, IsPrinted, fault_reply, fields_reply, bytes_reply, layers_reply, lint_reply, done, json_lines, svg_lines, check_lines, told_why}
 
 there_is : (of_tile : Tile → Reply) (of_fault : Fault → Reply) (input : List ℕ) (o : Option Fault) → fault_within LIMIT input ≡ o
     → (o ≡ None → (tile : Tile) × IsTile LIMIT input tile) → (reply : Reply) × IsJudged LIMIT of_tile of_fault input reply
@@ -29,6 +29,7 @@ has_reply Show input = printed (λ tile. done (json_lines tile)) input
 has_reply Draw input = printed (λ tile. done (svg_lines tile)) input
 has_reply Check input = printed (λ tile. done (check_lines input tile)) input
 has_reply Explain input = judged (λ tile. done (check_lines input tile)) (told_why LIMIT (take (LIMIT + 1) input)) input
+has_reply Lint input = printed lint_reply input
 has_reply Rewrite input = printed (bytes_reply LIMIT) input
 has_reply (Extract names) input = printed (layers_reply LIMIT names) input
 
@@ -56,5 +57,6 @@ has_one_reply Draw input a b a_is b_is = printed_once (λ tile. done (svg_lines 
 has_one_reply Check input a b a_is b_is = printed_once (λ tile. done (check_lines input tile)) input a b a_is b_is
 has_one_reply Explain input a b a_is b_is =
     judged_once (λ tile. done (check_lines input tile)) (told_why LIMIT (take (LIMIT + 1) input)) input a b a_is b_is
+has_one_reply Lint input a b a_is b_is = printed_once lint_reply input a b a_is b_is
 has_one_reply Rewrite input a b a_is b_is = printed_once (bytes_reply LIMIT) input a b a_is b_is
 has_one_reply (Extract names) input a b a_is b_is = printed_once (layers_reply LIMIT names) input a b a_is b_is

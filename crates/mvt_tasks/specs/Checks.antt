@@ -1,7 +1,7 @@
--- What is said of files that are checked, or explained, one after another.
+-- What is said of files that are checked, explained or linted, one after another.
 use Rattle.std.specs.Prelude.{◌≡◌, ℕ, ◌⊎◌, ◌≤◌, ◌==◌, List, [], ◌∷◌, ◌++◌, length, map, nat_lt, count_by, Bool, true, false, Option, Some, None, is_some, IfSome, codes, if◌then◌else◌, ⊤}
 use Rattle.std.specs.Fmt.{decimal}
-use Rattle.std.specs.List.{flat_map}
+use Rattle.std.specs.List.{flat_map, list_any}
 use Rattle.std.specs.Io.KnownBytes.{Appends}
 use Rattle.mvt_base.specs.Related.{AreRelated}
 use Rattle.mvt_io.specs.Counts.{counted, last_count}
@@ -13,9 +13,9 @@ use Rattle.mvt_tasks.specs.declared.folder.Visit.{Visit}
 use Rattle.mvt_tasks.specs.declared.reply.Reply.{Reply}
 use Rattle.mvt_tasks.specs.declared.tally.Tally.{Tally}
 use Rattle.mvt_tasks.specs.declared.tally.Verdict.{Verdict}
-use Rattle.mvt_tasks.specs.declared.tally.Verdict.TheVariants.{Accepted, Refused, Unread}
+use Rattle.mvt_tasks.specs.declared.tally.Verdict.TheVariants.{Accepted, Found, Refused, Unread}
 use Rattle.mvt_tasks.specs.declared.task.Task.{Task}
-use Rattle.mvt_tasks.specs.declared.task.Task.TheVariants.{Check, Explain}
+use Rattle.mvt_tasks.specs.declared.task.Task.TheVariants.{Check, Explain, Lint}
 use Rattle.mvt_tasks.specs.Failures.{line_of, status_of, FailsWriting}
 use Rattle.mvt_tasks.specs.Output.{IsReply}
 use Rattle.mvt_tasks.specs.Visits.{visit, Adds, AddsAll, IsNext}
@@ -25,9 +25,10 @@ pub record Checked : Type 0 where
   pub name : List ℕ
   pub reply : Option Reply
 
--- what is asked of files: to check them, or to explain them
+-- what is asked of files: to check them, to explain them, or to lint them
 abbrev pub task_of_files : Task → Task
 task_of_files Explain = Explain
+task_of_files Lint = Lint
 task_of_files task = Check
 
 -- what is answered for the bytes of a file
@@ -72,39 +73,54 @@ written_of file = marked_text file.name (text_of file.reply)
 unfoldable pub printed_of : Checked → List ℕ
 printed_of file = marked_text file.name (line_printed file.reply)
 
-abbrev pub verdict_printed : Option (List ℕ) → Verdict
-verdict_printed None = Accepted
-verdict_printed (Some line) = Refused
+abbrev pub verdict_printed : Option (List ℕ) → Bool → Verdict
+verdict_printed None false = Accepted
+verdict_printed None true = Found
+verdict_printed (Some line) has_findings = Refused
 
--- a tile for which a line is told is refused
+-- a tile for which a line is told is refused; another one is accepted, with findings or without
 abbrev pub verdict_of : Option Reply → Verdict
 verdict_of None = Unread
-verdict_of (Some reply) = verdict_printed reply.error_line
+verdict_of (Some reply) = verdict_printed reply.error_line reply.has_findings
 
 abbrev pub is_accepted : Verdict → Bool
 is_accepted Accepted = true
+is_accepted Found = true
 is_accepted Refused = false
 is_accepted Unread = false
 
 abbrev pub is_refused : Verdict → Bool
 is_refused Accepted = false
+is_refused Found = false
 is_refused Refused = true
 is_refused Unread = false
 
 abbrev pub is_unread : Verdict → Bool
 is_unread Accepted = false
+is_unread Found = false
 is_unread Refused = false
 is_unread Unread = true
+
+abbrev pub is_found : Verdict → Bool
+is_found Accepted = false
+is_found Found = true
+is_found Refused = false
+is_found Unread = false
 
 abbrev pub count_of : (Verdict → Bool) → List Checked → ℕ
 count_of test files = count_by (λ (file : Checked). test (verdict_of file.reply)) files
 
 abbrev pub tally_of : List Checked → Tally
-tally_of files = record { accepted = count_of is_accepted files; refused = count_of is_refused files; unread = count_of is_unread files }
+tally_of files = record {
+  accepted = count_of is_accepted files;
+  refused = count_of is_refused files;
+  unread = count_of is_unread files;
+  has_findings = list_any (λ (file : Checked). is_found (verdict_of file.reply)) files;
+}
 
--- 3 where a file was unread, else 1 where a tile was refused
+-- 3 where a file was unread, else 1 where a tile was refused, else 5 where one has findings
 abbrev pub status_after : Tally → ℕ
-status_after tally = if nat_lt 0 tally.unread then 3 else (if nat_lt 0 tally.refused then 1 else 0)
+status_after tally = if nat_lt 0 tally.unread then 3 else (if nat_lt 0 tally.refused then 1 else (if tally.has_findings then 5 else 0))
 
 -- of more than one file, how many there were of each kind
 unfoldable pub summary : ℕ → Tally → List ℕ

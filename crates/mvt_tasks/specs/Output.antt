@@ -1,5 +1,5 @@
 -- What a run puts on its output and its error stream, and its status.
-use Rattle.std.specs.Prelude.{◌≡◌, ℕ, ◌+◌, ◌⊎◌, Bool, true, List, ◌++◌, length, take, nat_lt, find, not, Option, Some, None, bytes_eq, if◌then◌else◌, codes, MatchOption, IfSome, IsSome, ⊤}
+use Rattle.std.specs.Prelude.{◌≡◌, ℕ, ◌+◌, ◌<◌, ◌==◌, ◌⊎◌, Bool, false, true, List, ◌++◌, length, take, nat_lt, find, not, Option, Some, None, bytes_eq, if◌then◌else◌, codes, MatchOption, IfSome, IsSome, ⊤}
 use Rattle.std.specs.Option.{option_map}
 use Rattle.std.specs.List.{list_any}
 use Rattle.std.specs.Io.KnownBytes.{Appends}
@@ -17,28 +17,31 @@ use Rattle.mvt_tile_value.specs.Tiles.{IsTile}
 use Rattle.mvt_places.specs.Explanations.{explanation}
 use Rattle.mvt_view.specs.FaultLines.{fault_line}
 use Rattle.mvt_view.specs.FieldLines.{fields_lines, fields_fault}
+use Rattle.mvt_tile_value.specs.Lint.{findings_of}
 use Rattle.mvt_view.specs.JsonForms.{json}
+use Rattle.mvt_view.specs.LintLines.{lint_lines}
 use Rattle.mvt_view.specs.Reports.{report_lines}
 use Rattle.mvt_view.specs.Svg.{svg}
 use Rattle.mvt_tasks.specs.declared.reply.Reply.{Reply}
 use Rattle.mvt_tasks.specs.declared.viewing.View.{View}
 use Rattle.mvt_tasks.specs.declared.viewing.View.TheVariants.{Json, Svg}
 use Rattle.mvt_tasks.specs.declared.task.Task.{Task}
-use Rattle.mvt_tasks.specs.declared.task.Task.TheVariants.{Fields, Show, Draw, Check, Explain, Rewrite, Extract}
+use Rattle.mvt_tasks.specs.declared.task.Task.TheVariants.{Fields, Show, Draw, Check, Explain, Lint, Rewrite, Extract}
 
 -- a text is written, and no line is told
 abbrev pub done : List ℕ → Reply
-done text = record { output = Some text; error_line = None }
+done text = record { output = Some text; error_line = None; has_findings = false }
 
 -- nothing is written, and a line is told, which ends in a line feed
 abbrev pub refused : List ℕ → Reply
-refused line = record { output = None; error_line = Some line }
+refused line = record { output = None; error_line = Some line; has_findings = false }
 
 -- the lines of the fields, and the line of the fault after them
 abbrev pub fields_reply : ℕ → List ℕ → Reply
 fields_reply limit input = record {
   output = Some (fields_lines limit input);
   error_line = option_map (λ fault. fault_line fault ++ codes "\n") (fields_fault limit input);
+  has_findings = false;
 }
 
 -- the JSON, and a line feed
@@ -57,6 +60,10 @@ view_lines Svg tile = svg_lines tile
 -- the report, which says yes exactly where the input is the tile's canonical bytes
 abbrev pub check_lines : List ℕ → Tile → List ℕ
 check_lines input tile = report_lines tile (bytes_eq input (canonical tile))
+
+-- a line for each finding
+abbrev pub lint_reply : Tile → Reply
+lint_reply tile = record { output = Some (lint_lines tile); error_line = None; has_findings = not (length (findings_of tile) == 0) }
 
 -- the canonical bytes, or the line of a result that is too large
 unfoldable pub bytes_reply : ℕ → Tile → Reply
@@ -98,6 +105,7 @@ abbrev pub told_why : ℕ → List ℕ → Fault → Reply
 told_why limit bytes fault = record {
   output = Some (explanation limit bytes fault);
   error_line = Some (fault_line fault ++ codes "\n");
+  has_findings = false;
 }
 
 -- the report on an input that is a tile, or what is said of its fault, as these bytes of it tell
@@ -111,6 +119,7 @@ IsReply limit Show input reply = IsPrinted limit (λ tile. done (json_lines tile
 IsReply limit Draw input reply = IsPrinted limit (λ tile. done (svg_lines tile)) input reply
 IsReply limit Check input reply = IsPrinted limit (λ tile. done (check_lines input tile)) input reply
 IsReply limit Explain input reply = IsExplained limit (take (limit + 1) input) input reply
+IsReply limit Lint input reply = IsPrinted limit lint_reply input reply
 IsReply limit Rewrite input reply = IsPrinted limit (bytes_reply limit) input reply
 IsReply limit (Extract names) input reply = IsPrinted limit (layers_reply limit names) input reply
 
@@ -121,13 +130,19 @@ ReadsNoFurther limit Show old new = StopsEarly limit new.given old.left new.left
 ReadsNoFurther limit Draw old new = StopsEarly limit new.given old.left new.left
 ReadsNoFurther limit Check old new = TakesAtMost (limit + 1) old.left new.left
 ReadsNoFurther limit Explain old new = TakesAtMost (limit + 1) old.left new.left
+ReadsNoFurther limit Lint old new = StopsEarly limit new.given old.left new.left
 ReadsNoFurther limit Rewrite old new = StopsEarly limit new.given old.left new.left
 ReadsNoFurther limit (Extract names) old new = StopsEarly limit new.given old.left new.left
 
--- a line is told exactly with status 1
-abbrev pub status_with : Option (List ℕ) → ℕ
-status_with None = 0
-status_with (Some line) = 1
+-- a line is told exactly with status 1; 5 says that there are findings
+abbrev pub status_with : Option (List ℕ) → Bool → ℕ
+status_with None false = 0
+status_with None true = 5
+status_with (Some line) has_findings = 1
+
+-- the status of a reply that was given, and not of a failure
+abbrev pub IsGiven : ℕ → Type 0
+IsGiven status = (status < 2) ⊎ (status ≡ 5)
 
 -- a reply without a line has a text
 abbrev pub HasOutput : Reply → Type 0
@@ -141,10 +156,10 @@ PutOut old new text = Appends old.taken new.taken text × (new.flushes ≡ count
 abbrev pub PutsText : Type 0 → (List ℕ → Type 0) → Reply → Type 0
 PutsText Untouched Writes reply = MatchOption reply.output Untouched Writes
 
--- a reply was given: its text was put out, its line was told, and the status says whether there is one
+-- a reply was given: its text was put out, its line was told, and the status says whether there is one, or findings
 abbrev pub GivesReply : ℕ → Type 0 → (List ℕ → Type 0) → Type 0 → (List ℕ → Type 0) → Reply → Type 0
 GivesReply status Untouched Writes Silent Prints reply =
-    (status ≡ status_with reply.error_line) × PutsText Untouched Writes reply × MatchOption reply.error_line Silent Prints
+    (status ≡ status_with reply.error_line reply.has_findings) × PutsText Untouched Writes reply × MatchOption reply.error_line Silent Prints
 
 -- what a task answers for what a reader had left, where that is known
 abbrev pub IsReplyTo : ℕ → Task → Option (List ℕ) → Reply → Type 0

@@ -9,6 +9,7 @@ use crate::checking::check;
 use crate::explaining::explain;
 use crate::extraction::extract_layers;
 use crate::failure::Failure;
+use crate::linting::lint_tile;
 use crate::listing::list_fields;
 use crate::reply::Reply;
 use crate::rewriting::rewrite;
@@ -39,6 +40,7 @@ pub fn answer<R: Source>(alloc: Global, task: Task, reader: &mut R) -> Result<Re
         Task::Draw => view_tile(alloc, View::Svg, reader),
         Task::Check => check(alloc, reader),
         Task::Explain => explain(alloc, reader),
+        Task::Lint => lint_tile(alloc, reader),
         Task::Rewrite => rewrite(alloc, reader),
         Task::Extract(names) => extract_layers(alloc, &names, reader),
     }

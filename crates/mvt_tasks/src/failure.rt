@@ -19,6 +19,7 @@ impl Failure {
     pub fn status(self) -> u8
         ensures status { result ≡ status_of self }
         ensures above { 2 < result }
+        ensures below { result < 5 }
     {
         match self {
             Failure::Read | Failure::Write => 3,

@@ -1,4 +1,4 @@
-//! The commands `check` and `explain` over files.
+//! The commands `check`, `explain` and `lint` over files.
 ghost use Rattle.std.specs.Prelude.{◌≡◌, ◌≢◌, ◌<◌, ◌⊎◌, [], ◌∷◌, ◌++◌, ℕ, List, true, length, map, string_bytes, IfOk, IfErr, IfSome, OnOk, OnErr};
 ghost use Rattle.std.specs.List.{flat_map};
 ghost use Rattle.std.specs.Io.KnownBytes.{Appends};
@@ -7,12 +7,14 @@ ghost use Rattle.mvt_io.specs.States.{NoneFailed};
 ghost use Rattle.mvt_tasks.specs.declared.folder.Visit.{Visit as AVisit};
 ghost use Rattle.mvt_tasks.specs.Checks.{Checked, FlushesAtMost, EndsEarly, IsFileReply, ReportsFiles, ReportsFile, ChecksFiles, SaysOf, TakesUntil, TellsFiles, Prints, line_printed, marked_text, run_state, status_after, summary, text_of, printed_of, verdict_of, visit_of, written_of};
 ghost use Rattle.mvt_tasks.specs.Failures.{FailsReading, FailsWriting};
+ghost use Rattle.mvt_tasks.specs.Output.{IsGiven};
 ghost use Rattle.mvt_tasks.specs.Visits.{Adds, AddsAll, IsNext, OneAtATime};
 
 use crate::checking::check;
 use crate::explaining::explain;
 use crate::failure::Failure;
 use crate::folder::Folder;
+use crate::linting::lint_tile;
 use crate::marks::named;
 use crate::reply::{Reply, fail};
 use crate::tally::{Tally, Verdict};
@@ -42,7 +44,7 @@ pub fn check_files<F: Folder, W: Sink, E: Sink>(
     tell_files(alloc, &Task::Check, names, folder, writer, errors)
 }
 
-/// The same of files that are checked or explained, by the task: other tasks check them.
+/// The same of files that are checked, explained or linted, by the task: other tasks check them.
 pub fn tell_files<F: Folder, W: Sink, E: Sink>(
     alloc: Global,
     task: &Task,
@@ -56,7 +58,7 @@ pub fn tell_files<F: Folder, W: Sink, E: Sink>(
         (run_state (F.visits folder.old) (W.state writer.old) (E.state errors.old))
         (run_state (F.visits folder.new) (W.state writer.new) (E.state errors.new)) result }
     ensures one { OneAtATime (F.open_files folder.old) (F.open_files folder.new) }
-    ensures sound { result < 2
+    ensures sound { IsGiven result
         → NoneFailed (W.state writer.old).faults (W.state writer.new).faults }
 {
     match tell_all(alloc, task, names, folder, writer, errors) {
@@ -131,7 +133,7 @@ fn tell_each<F: Folder, W: Sink, E: Sink>(
     Ok(tally)
 }
 
-/// Checks or explains a file, and puts out what there is to say of it.
+/// Checks, explains or lints a file, and puts out what there is to say of it.
 fn tell_one<F: Folder, W: Sink, E: Sink>(
     alloc: Global,
     task: &Task,
@@ -207,6 +209,7 @@ fn tell<R: Source>(alloc: Global, task: &Task, reader: &mut R) -> Result<Reply, 
 {
     match task {
         Task::Explain => explain(alloc, reader),
+        Task::Lint => lint_tile(alloc, reader),
         _ => check(alloc, reader),
     }
 }

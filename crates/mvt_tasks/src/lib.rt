@@ -1,5 +1,5 @@
-//! What the program `mvt` does with tiles: it lists, shows, draws, checks, explains, rewrites and
-//! extracts, over any reader and writer, and checks the files of any folder.
+//! What the program `mvt` does with tiles: it lists, shows, draws, checks, explains, lints, rewrites
+//! and extracts, over any reader and writer, and checks the files of any folder.
 #![tactic(auto)]
 
 mod answering;
@@ -10,6 +10,7 @@ mod failure;
 mod files;
 mod folder;
 pub mod laws;
+mod linting;
 mod listing;
 mod marks;
 mod memory;
@@ -29,6 +30,7 @@ pub use extraction::extract_layers;
 pub use failure::Failure;
 pub use files::{check_files, tell_files};
 pub use folder::{Disk, Folder, OpenFiles, Visit};
+pub use linting::lint_tile;
 pub use listing::list_fields;
 pub use memory::{MemoryFile, MemoryFolder};
 pub use names::Names;

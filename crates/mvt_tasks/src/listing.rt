@@ -43,5 +43,6 @@ fn listed(alloc: Global, input: &[u8]) -> Result<Reply, Failure>
     Ok(Reply {
         output: Some(Items::new(lines.into_bytes())),
         error_line,
+        has_findings: false,
     })
 }

@@ -1,21 +1,23 @@
 //! What a command answers, and how it is put out.
-ghost use Rattle.std.specs.Prelude.{◌≡◌, ◌<◌, ◌⊎◌, OnOk, OnErr, IfOk, IfErr};
+ghost use Rattle.std.specs.Prelude.{◌≡◌, ◌<◌, ◌⊎◌, None, OnOk, OnErr, IfOk, IfErr};
 ghost use Rattle.mvt_io.specs.States.{NoneFailed};
 ghost use Rattle.mvt_io.specs.Transfers.{TakesPrefix};
 ghost use Rattle.mvt_tasks.specs.Checks.{Prints};
 ghost use Rattle.mvt_tasks.specs.Failures.{EndsFailed, line_of, status_of};
-ghost use Rattle.mvt_tasks.specs.Output.{GivesReply, PutOut, PutsText};
+ghost use Rattle.mvt_tasks.specs.Output.{GivesReply, IsGiven, PutOut, PutsText, status_with};
 
 use crate::failure::Failure;
 use mvt_base::{Items, Text};
 use mvt_io::{Sink, write_all};
 
-/// What a command answers: the bytes for the output, if there are any due, and the line for the
-/// error stream, if there is one. The status is 1 exactly where there is a line.
+/// What a command answers: the bytes for the output, if there are any due, the line for the error
+/// stream, if there is one, and whether the bytes tell findings. The status is 1 exactly where
+/// there is a line, and else 5 where there are findings.
 #[derive(Debug, Drop)]
 pub struct Reply {
     pub output: Option<Items<u8>>,
     pub error_line: Option<Text>,
+    pub has_findings: bool,
 }
 
 /// Puts the bytes of a reply out, if there are any due, and answers its line.
@@ -34,7 +36,11 @@ fn deliver<W: Sink>(reply: Reply, writer: &mut W) -> Result<Option<Text>, Failur
     ensures honest { OnOk result
         (NoneFailed (W.state writer.old).faults (W.state writer.new).faults) }
 {
-    let Reply { output, error_line } = reply;
+    let Reply {
+        output,
+        error_line,
+        ..
+    } = reply;
     if let Some(bytes) = output {
         put_out(bytes.as_slice(), writer)?;
     }
@@ -57,21 +63,22 @@ fn put_out<W: Sink>(bytes: &[u8], writer: &mut W) -> Result<(), Failure>
 
 /// Puts a reply out, and answers its status; 3 where that failed.
 pub(crate) fn give<W: Sink, E: Sink>(reply: Reply, writer: &mut W, errors: &mut E) -> u8
-    ensures done { result < 2 → GivesReply result (writer.new ≡ writer.old)
+    ensures done { IsGiven result → GivesReply result (writer.new ≡ writer.old)
         (PutOut (W.state writer.old) (W.state writer.new)) (errors.new ≡ errors.old)
         (Prints (E.state errors.old) (E.state errors.new)) reply }
-    ensures honest { result < 2
+    ensures honest { IsGiven result
         → NoneFailed (W.state writer.old).faults (W.state writer.new).faults }
-    ensures prefix { 2 < result → PutsText ⊥
+    ensures prefix { result ≡ 3 → PutsText ⊥
         (TakesPrefix (W.state writer.old).taken (W.state writer.new).taken) reply }
-    ensures failed { 2 < result
+    ensures failed { result ≡ 3
         → EndsFailed (W.state writer.old).faults (W.state writer.new).faults }
-    ensures line { 2 < result
+    ensures line { result ≡ 3
         → Prints (E.state errors.old) (E.state errors.new) (line_of Failure.Write) }
-    ensures statuses { (result < 2) ⊎ (result ≡ 3) }
+    ensures statuses { IsGiven result ⊎ (result ≡ 3) }
 {
+    let has_findings = reply.has_findings;
     match deliver(reply, writer) {
-        Ok(None) => 0,
+        Ok(None) => status_of_lint(has_findings),
         Ok(Some(line)) => {
             print(errors, line.as_str());
             1
@@ -80,10 +87,18 @@ pub(crate) fn give<W: Sink, E: Sink>(reply: Reply, writer: &mut W, errors: &mut 
     }
 }
 
+/// The status of a reply without a line.
+fn status_of_lint(has_findings: bool) -> u8
+    ensures { result ≡ status_with None has_findings }
+{
+    if has_findings { 5 } else { 0 }
+}
+
 /// Tells a failure, and answers its status.
 pub(crate) fn fail<E: Sink>(failure: Failure, errors: &mut E) -> u8
     ensures status { result ≡ status_of failure }
     ensures above { 2 < result }
+    ensures below { result < 5 }
     ensures line { Prints (E.state errors.old) (E.state errors.new) (line_of failure) }
 {
     print(errors, failure.line());

@@ -32,14 +32,17 @@ pub fn rewrite<R: Source>(alloc: Global, reader: &mut R) -> Result<Reply, Failur
         Ok(Some(bytes)) => Ok(Reply {
             output: Some(Items::new(bytes)),
             error_line: None,
+            has_findings: false,
         }),
         Ok(None) => Ok(Reply {
             output: None,
             error_line: Some(too_large(alloc)?),
+            has_findings: false,
         }),
         Err(error) => Ok(Reply {
             output: None,
             error_line: Some(refusal(alloc, error)?),
+            has_findings: false,
         }),
     }
 }

@@ -7,7 +7,7 @@ ghost use Rattle.mvt_tasks.specs.declared.failure.Failure.TheVariants.{Write as 
 ghost use Rattle.mvt_tasks.specs.declared.reply.Reply.{Reply as AReply};
 ghost use Rattle.mvt_tasks.specs.Checks.{Prints};
 ghost use Rattle.mvt_tasks.specs.Failures.{EndsFailed, FailsReading, line_of, status_of};
-ghost use Rattle.mvt_tasks.specs.Output.{GivesReply, HasOutput, IsReplyTo, PutOut, PutsText, ReadsNoFurther};
+ghost use Rattle.mvt_tasks.specs.Output.{GivesReply, HasOutput, IsGiven, IsReplyTo, PutOut, PutsText, ReadsNoFurther};
 
 use crate::answering::answer;
 use crate::reply::{fail, give};
@@ -17,7 +17,8 @@ use mvt_io::{Sink, Source};
 use std::alloc::Global;
 
 /// Runs a task, and answers the program's status: 0 for a reply without a line, 1 for one with a
-/// line, 3 where a read or a write failed, 4 for want of memory. Faults of `errors` are ignored.
+/// line, 3 where a read or a write failed, 4 for want of memory, 5 for a reply with findings.
+/// Faults of `errors` are ignored.
 pub fn run_task<R: Source, W: Sink, E: Sink>(
     alloc: Global,
     task: Task,
@@ -25,17 +26,17 @@ pub fn run_task<R: Source, W: Sink, E: Sink>(
     writer: &mut W,
     errors: &mut E,
 ) -> u8
-    ensures done { result < 2 → (reply : AReply)
+    ensures done { IsGiven result → (reply : AReply)
         × IsReplyTo LIMIT task (R.state reader.old).left reply × HasOutput reply
         × GivesReply result (writer.new ≡ writer.old)
         (PutOut (W.state writer.old) (W.state writer.new)) (errors.new ≡ errors.old)
         (Prints (E.state errors.old) (E.state errors.new)) reply }
-    ensures sound { result < 2 → NoneFailed (R.state reader.old).faults (R.state reader.new).faults
+    ensures sound { IsGiven result → NoneFailed (R.state reader.old).faults (R.state reader.new).faults
         × NoneFailed (W.state writer.old).faults (W.state writer.new).faults }
 
     // Where no reply could be made, the output is as it was. A write that failed leaves a front of
     // the reply's text.
-    ensures failed { 2 < result → (failure : AFailure) × (result ≡ status_of failure)
+    ensures failed { 2 < result → result < 5 → (failure : AFailure) × (result ≡ status_of failure)
         × Prints (E.state errors.old) (E.state errors.new) (line_of failure)
         × ((FailsReading (R.state reader.old).faults (R.state reader.new).faults failure
         × (writer.new ≡ writer.old))
@@ -45,7 +46,7 @@ pub fn run_task<R: Source, W: Sink, E: Sink>(
         × ((reply : AReply) × IsReplyTo LIMIT task (R.state reader.old).left reply
         × PutsText ⊥ (TakesPrefix (W.state writer.old).taken (W.state writer.new).taken) reply))) }
     ensures memory { result ≡ 4 → writer.new ≡ writer.old }
-    ensures statuses { (result < 2) ⊎ ((result ≡ 3) ⊎ (result ≡ 4)) }
+    ensures statuses { IsGiven result ⊎ ((result ≡ 3) ⊎ (result ≡ 4)) }
     ensures reads { Reads (LIMIT + 2) (R.state reader.old) (R.state reader.new) }
     ensures leaves { ReadsNoFurther LIMIT task (R.state reader.old) (R.state reader.new) }
 {

@@ -15,6 +15,8 @@ pub enum Task {
     Check,
     /// The same, and why a tile is refused: where, and what it means.
     Explain,
+    /// What viewers stumble over in a tile that is accepted.
+    Lint,
     /// The tile in canonical form.
     Rewrite,
     /// The named layers in canonical form.

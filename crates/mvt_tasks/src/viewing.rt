@@ -41,6 +41,7 @@ pub fn view_tile<R: Source>(alloc: Global, view: View, reader: &mut R) -> Result
         Err(error) => Ok(Reply {
             output: None,
             error_line: Some(refusal(alloc, error)?),
+            has_findings: false,
         }),
     }
 }
@@ -57,5 +58,6 @@ fn viewed(alloc: Global, view: View, tile: &Tile) -> Result<Reply, Failure>
     Ok(Reply {
         output: Some(Items::new(text.into_bytes())),
         error_line: None,
+        has_findings: false,
     })
 }

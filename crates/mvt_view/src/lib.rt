@@ -1,10 +1,11 @@
-//! Texts of tiles: JSON, pictures, the lines of top-level fields, faults and reports.
+//! Texts of tiles: JSON, pictures, the lines of top-level fields, faults, findings and reports.
 #![tactic(auto)]
 
 mod fault;
 mod fields;
 mod json_part;
 pub mod laws;
+mod lint_lines;
 mod numbers;
 mod parts;
 mod paths;
@@ -17,6 +18,7 @@ mod xml;
 
 pub use fault::fault_text;
 pub use fields::{FieldsText, fields_text};
+pub use lint_lines::lint_text;
 pub use quoted::push_quoted;
 pub use report::{report_text, survey_text};
 pub use svg::svg_text;

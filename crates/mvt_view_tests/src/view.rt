@@ -4,7 +4,7 @@ use mvt_attrs::{Attribute, Value};
 use mvt_base::{Items, LIMIT, Text};
 use mvt_geometry::{Geometry, Point, Polygon};
 use mvt_message::{Cause, Feature, Item, Layer};
-use mvt_tile::{Fault, Tile};
+use mvt_tile::{Fault, Finding, Tile};
 use mvt_view::*;
 use std::alloc::{AllocError, Global};
 use std::process::Abort;
@@ -544,6 +544,40 @@ fn fields_refused_memory(rt: HostRuntime) {
             let is_refused = are_fields_refused(&rt, input, lines, *fault);
             wanted = wanted.saturating_add(u32::from(is_refused));
         }
+    }
+    expect!(rt; wanted <= 1);
+}
+
+const FINDINGS: [Finding; 6] = [
+    Finding::ZeroExtent(0),
+    Finding::NoGeometry(1, 2),
+    Finding::UnknownGeometry(3, 4),
+    Finding::FarPoint(0, 3, 20_000, -7),
+    Finding::LargeId(5, 6),
+    Finding::LargeNumber(7, 8, 9),
+];
+
+const FOUND: &str = concat!(
+    "lint ZeroExtent layer 0\n",
+    "lint NoGeometry layer 1 feature 2\n",
+    "lint UnknownGeometry layer 3 feature 4\n",
+    "lint FarPoint layer 0 feature 3 position 20000 -7\n",
+    "lint LargeId layer 5 feature 6\n",
+    "lint LargeNumber layer 7 feature 8 attribute 9\n"
+);
+
+#[test]
+fn tells_findings(rt: HostRuntime) {
+    expect_text(&rt, lint_text(rt.alloc(), &[]), "");
+    expect_text(&rt, lint_text(rt.alloc(), &FINDINGS), FOUND);
+}
+
+#[test]
+fn findings_refused_memory(rt: HostRuntime) {
+    let alloc = rt.alloc();
+    let mut wanted: u32 = 0;
+    for _ in 0..2 {
+        wanted = wanted.saturating_add(wants(&rt, lint_text(alloc, &FINDINGS), FOUND));
     }
     expect!(rt; wanted <= 1);
 }

@@ -127,7 +127,13 @@ fn passed_by_rows(alloc: Global, tile: &[u8], digest: &mut Digest) {
 fn replied(alloc: Global, task: Task, tile: &[u8], digest: &mut Digest) {
     let mut reader = Host::new(tile);
     match answer(alloc, task, &mut reader) {
-        Ok(Reply { output, error_line }) => {
+        Ok(
+            Reply {
+                output,
+                error_line,
+                ..
+            },
+        ) => {
             if let Some(bytes) = output {
                 digest.add_bytes(bytes.as_slice());
             }

@@ -13,6 +13,7 @@ returns c = record {
   draw = λ name. refl;
   check = λ name. refl;
   explain = λ name. refl;
+  lint = λ name. refl;
   rewrite = λ name. refl;
   extract = λ name. refl;
 }

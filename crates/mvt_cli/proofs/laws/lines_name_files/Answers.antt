@@ -9,5 +9,6 @@ returns c = record {
   no_files = λ name. refl;
   files = λ name. refl;
   files_explained = λ name. refl;
+  files_linted = λ name. refl;
   hyphens = λ name. refl;
 }

@@ -16,10 +16,11 @@ returns c =
     let four = added _ _ _ _ _ c.in_ok-subcommand-4.ensures three c.in_ok-check.ensures.shape c.in_ok-check.ensures.local in
     let five = added _ _ _ _ _ c.in_ok-subcommand-5.ensures four c.in_ok-explain.ensures.shape
     c.in_ok-explain.ensures.local in
-    let six = added _ _ _ _ _ c.in_ok-subcommand-6.ensures five c.bare_command-rewrite.ensures.shape
+    let six = added _ _ _ _ _ c.in_ok-subcommand-6.ensures five c.in_ok-lint.ensures.shape c.in_ok-lint.ensures.local in
+    let seven = added _ _ _ _ _ c.in_ok-subcommand-7.ensures six c.bare_command-rewrite.ensures.shape
     c.bare_command-rewrite.ensures.local in
-    IfOk-weaker c.subcommand-7.result _ _
-    (λ m h. added _ _ _ _ _ h six c.in_ok-extract.ensures.shape c.in_ok-extract.ensures.local) c.subcommand-7.ensures
+    IfOk-weaker c.subcommand-8.result _ _
+    (λ m h. added _ _ _ _ _ h seven c.in_ok-extract.ensures.shape c.in_ok-extract.ensures.local) c.subcommand-8.ensures
 
 pub returns-in_err-extract : goal.returns-in_err-extract
 returns-in_err-extract c =

@@ -30,7 +30,12 @@ loop-name-preserved g c = record {
       c.in_ok-verdict.ensures.said c.loop-name.invariant.same c.as_str.ensures.value
       (ap (map string_bytes) (front_more c.args.names.now c.loop-name.name-index c.name-item.result c.loop-name-test.true c.name-item.is)
       ∙ map-append string_bytes (take c.loop-name.name-index c.args.names.now) (c.name-item.result ∷ []))
-      (record { accepted = c.add.ensures.accepted; refused = c.add.ensures.refused; unread = c.add.ensures.unread });
+      (record {
+        accepted = c.add.ensures.accepted;
+        refused = c.add.ensures.refused;
+        unread = c.add.ensures.unread;
+        found = c.add.ensures.found;
+      });
   unflushed = c.in_ok-verdict.ensures.unflushed ∙ c.loop-name.invariant.unflushed;
   sound = c.in_ok-verdict.ensures.sound ∙ c.loop-name.invariant.sound;
   one = one_more_then _ _ _ c.loop-name.invariant.one c.in_ok-verdict.ensures.one;

@@ -1,0 +1,53 @@
+//! The command `lint`.
+ghost use Rattle.std.specs.Prelude.{◌≡◌, ◌+◌, IfOk, IfErr, IfSome, OnOk};
+ghost use Rattle.mvt_io.specs.States.{NoneFailed};
+ghost use Rattle.mvt_io.specs.Transfers.{Reads};
+ghost use Rattle.mvt_tile.specs.Reading.{StopsEarly};
+ghost use Rattle.mvt_tasks.specs.Failures.{FailsReading};
+ghost use Rattle.mvt_tasks.specs.Output.{IsPrinted, HasOutput, lint_reply};
+
+use crate::failure::Failure;
+use crate::refusal::refusal;
+use crate::reply::Reply;
+use mvt_base::{Items, LIMIT};
+use mvt_io::Source;
+use mvt_tile::{Tile, lint, read_tile};
+use mvt_view::lint_text;
+use std::alloc::Global;
+
+/// Reads a tile, and makes a line for each finding. It reads no further after a fault.
+pub fn lint_tile<R: Source>(alloc: Global, reader: &mut R) -> Result<Reply, Failure>
+    ensures reply { IfOk result
+        (λ reply. IfSome (R.state reader.old).left
+        (λ input. IsPrinted LIMIT lint_reply input reply)) }
+    ensures output { IfOk result HasOutput }
+    ensures failed { IfErr result
+        (FailsReading (R.state reader.old).faults (R.state reader.new).faults) }
+    ensures sound { OnOk result
+        (NoneFailed (R.state reader.old).faults (R.state reader.new).faults) }
+    ensures reads { Reads (LIMIT + 2) (R.state reader.old) (R.state reader.new) }
+    ensures stops { StopsEarly LIMIT (R.state reader.new).given (R.state reader.old).left
+        (R.state reader.new).left }
+{
+    match read_tile(alloc, reader) {
+        Ok(tile) => linted(alloc, &tile),
+        Err(error) => Ok(Reply {
+            output: None,
+            error_line: Some(refusal(alloc, error)?),
+            has_findings: false,
+        }),
+    }
+}
+
+fn linted(alloc: Global, tile: &Tile) -> Result<Reply, Failure>
+    ensures reply { IfOk result (λ reply. reply ≡ lint_reply tile.now) }
+    ensures failed { IfErr result (λ failure. failure ≡ Failure.Memory) }
+{
+    let findings = lint(alloc, tile)?;
+    let text = lint_text(alloc, findings.as_slice())?;
+    Ok(Reply {
+        output: Some(Items::new(text.into_bytes())),
+        error_line: None,
+        has_findings: !findings.is_empty(),
+    })
+}
