@@ -54,6 +54,16 @@ def check(files):
     return notes, refused
 
 
+def lint(files):
+    """The files with what viewers stumble over, by its kind."""
+    run = subprocess.run(["xargs", "-0", mvt, "lint"], input="\0".join(map(str, files)), capture_output=True, text=True)
+    found = collections.defaultdict(set)
+    for line in run.stdout.splitlines():
+        file, finding = line.split(": lint ")
+        found[finding.split()[0]].add(file)
+    return found
+
+
 def tiles_of(folder):
     return sorted(file for file in folder.rglob("*") if file.suffix in (".pbf", ".mvt"))
 
@@ -85,13 +95,14 @@ def kind_of(feature, cause):
 
 
 def table_of_sets(folders, found):
-    rows = ["| Producer | Set | Tiles | Refused | by cause | Accepted with a note |", "|---|---|---|---|---|---|"]
+    rows = ["| Producer | Set | Tiles | Refused | by cause | Accepted with a note | Accepted with a finding |", "|---|---|---|---|---|---|---|"]
     for folder in folders:
         tiles, notes, refused = found[folder.name]
+        findings = ", ".join(f"{kind} {len(files)}" for kind, files in sorted(lint(tiles).items())) or "-"
         causes = collections.Counter(cause for *_, cause in refused.values())
         by_cause = ", ".join(f"{cause} {n}" for cause, n in causes.most_common()) or "-"
         by_note = ", ".join(f"{note} {len(files)}" for note, files in sorted(notes.items())) or "-"
-        rows.append(f"| {named(producer(folder.name))} | {folder.name} | {len(tiles):,} | {len(refused):,} | {by_cause} | {by_note} |")
+        rows.append(f"| {named(producer(folder.name))} | {folder.name} | {len(tiles):,} | {len(refused):,} | {by_cause} | {by_note} | {findings} |")
     return rows
 
 

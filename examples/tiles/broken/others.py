@@ -48,8 +48,9 @@ def ogrinfo(tile):
     return f"accepts: {kept}" + (f"; prints `{errors[0]}`" if errors else "")
 
 
-print("| Tile | `mvt check` | `protoc --decode` | `ogrinfo` |\n|---|---|---|---|")
-for line in (here / "tiles.tsv").read_text().splitlines():
-    name, _, fault = line.split("\t")
-    tile = tile_of(name)
-    print(f"| {name} | `{fault}` | {protoc(tile)} | {ogrinfo(tile)} |")
+if __name__ == "__main__":
+    print("| Tile | `mvt check` | `protoc --decode` | `ogrinfo` |\n|---|---|---|---|")
+    for line in (here / "tiles.tsv").read_text().splitlines():
+        name, _, fault = line.split("\t")
+        tile = tile_of(name)
+        print(f"| {name} | `{fault}` | {protoc(tile)} | {ogrinfo(tile)} |")

@@ -1,0 +1,95 @@
+"""Draws a tile by Mapbox GL, as the plugin of Qt Location has it, in software and without a screen."""
+import collections
+import http.server
+import itertools
+import json
+import os
+import subprocess
+import tempfile
+import threading
+from pathlib import Path
+
+from PIL import Image
+
+SIZE = 512
+SCREENS = itertools.count(100)  # a screen of its own for each picture
+COLOURS = ["#00aa00", "#aa0000", "#0000aa", "#aa7700"]
+PAINT = {"fill": lambda c: {"fill-color": c, "fill-antialias": False},
+         "line": lambda c: {"line-color": c, "line-width": 2},
+         "circle": lambda c: {"circle-color": c, "circle-radius": 5}}
+QML = """import QtQuick 2.15
+import QtQuick.Window 2.15
+import QtLocation 5.15
+import QtPositioning 5.15
+Window { width: 512; height: 512; visible: true
+  Map { id: map; anchors.fill: parent; copyrightsVisible: false
+    plugin: Plugin { name: "mapboxgl"
+      PluginParameter { name: "mapboxgl.mapping.additional_style_urls"; value: "file://ROOM/style.json" }
+      PluginParameter { name: "mapboxgl.mapping.use_fbo"; value: "true" }
+      PluginParameter { name: "mapboxgl.mapping.cache.memory"; value: "true" } }
+    center: QtPositioning.coordinate(0, 0); zoomLevel: 0 }
+  Timer { interval: WAIT; running: true
+    onTriggered: map.grabToImage(function (shot) { shot.saveToFile("ROOM/out.png"); Qt.quit() }) } }
+"""
+# What came: the status, 128 and more for a signal; the viewer's words on the tile; for each layer the columns of the picture
+# that have its colour, with how many pixels they have; and the picture. The last two are None where there is no picture.
+Drawn = collections.namedtuple("Drawn", "status words columns picture")
+
+
+def serve(tile):
+    class Handler(http.server.BaseHTTPRequestHandler):
+        def do_GET(self):
+            self.send_response(200)
+            self.send_header("Content-Length", str(len(tile)))
+            self.end_headers()
+            self.wfile.write(tile)
+
+        def log_message(self, *_):
+            pass
+
+    server = http.server.ThreadingHTTPServer(("127.0.0.1", 0), Handler)
+    threading.Thread(target=server.serve_forever, daemon=True).start()
+    return server
+
+
+def style_of(port, layers):
+    return {"version": 8,
+            "sources": {"t": {"type": "vector", "tiles": [f"http://127.0.0.1:{port}/{{z}}/{{x}}/{{y}}"], "maxzoom": 0}},
+            "layers": [{"id": "ground", "type": "background", "paint": {"background-color": "#ffffff"}}]
+            + [{"id": str(i), "type": kind, "source": "t", "source-layer": name, "paint": PAINT[kind](COLOURS[i])}
+               for i, (name, kind) in enumerate(layers)]}
+
+
+def columns_of(image, colour):
+    wanted = tuple(bytes.fromhex(colour[1:]))
+    found = collections.Counter()
+    for at, pixel in enumerate(image.getdata()):
+        if pixel == wanted:
+            found[at % image.width] += 1
+    return found
+
+
+def draw(tile, layers):
+    """The tile is served as 0/0/0 and drawn by these layers, each a name and fill, line or circle, the last on top."""
+    drawn = draw_within(2500, tile, layers)
+    if drawn.columns is not None and not any(drawn.columns) and not drawn.words:
+        return draw_within(10000, tile, layers)
+    return drawn
+
+
+def draw_within(wait, tile, layers):
+    """The picture after so many milliseconds."""
+    server = serve(tile)
+    with tempfile.TemporaryDirectory() as room:
+        Path(room, "style.json").write_text(json.dumps(style_of(server.server_port, layers)))
+        Path(room, "map.qml").write_text(QML.replace("ROOM", room).replace("WAIT", str(wait)))
+        env = dict(os.environ, LIBGL_ALWAYS_SOFTWARE="1", XDG_RUNTIME_DIR=room, HOME=room)
+        ran = subprocess.run(["xvfb-run", "-n", str(next(SCREENS)), "-s", f"-screen 0 {SIZE + 100}x{SIZE + 100}x24 +extension GLX", "timeout", "60",
+                              "qmlscene", f"{room}/map.qml"], env=env, capture_output=True, text=True)
+        server.shutdown()
+        words = [line.split(" for source t: ")[-1].strip(' "') for line in (ran.stdout + ran.stderr).splitlines() if "ERROR" in line]
+        shot = Path(room, "out.png")
+        if not shot.exists():
+            return Drawn(ran.returncode, words, None, None)
+        image = Image.open(shot).convert("RGB")
+        return Drawn(ran.returncode, words, [columns_of(image, COLOURS[i]) for i in range(len(layers))], image.tobytes())
