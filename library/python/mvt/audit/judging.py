@@ -8,7 +8,7 @@ from contextlib import closing
 from functools import lru_cache
 from operator import itemgetter
 from pathlib import Path
-from typing import Any, Dict, Iterable, Iterator, List, NamedTuple, Optional, Tuple
+from typing import Any, Dict, Iterable, Iterator, List, NamedTuple, Optional, Tuple, Union
 
 import mvt
 from mvt._mvt import answer, located
@@ -27,8 +27,9 @@ TOO_LARGE = 25
 # Of a tile with more notes the rest is counted.
 MOST_NOTES = 50
 
-# Statuses of the library.
+# Statuses of the library, and a fault as it tells one.
 _REFUSED, _NO_MEMORY = 1, 2
+_Fault = Tuple[int, int, int, int, bytes]
 
 # Many tiles of a cache are small and equal: what was said of so many such contents, each of so many bytes at most, is kept.
 _MOST_KEPT, _SMALL = 1000, 400
@@ -89,6 +90,7 @@ class Judge:
     """Says what it says of one content after the other, and keeps what it said of small ones."""
 
     def __init__(self) -> None:
+        self._report = _reported
         self._kept: Dict[bytes, Said] = {}
         self._last: Tuple[Content, Said] = b"", Said(EMPTY, 0, notes="NoLayers")
 
@@ -122,14 +124,11 @@ class Judge:
         if not tile:
             return Said(EMPTY, 0, notes="NoLayers")
         try:
-            status, told = answer("report", tile)
+            told = self._report(tile)
         except MemoryError:
-            status = _NO_MEMORY
-        if status == _NO_MEMORY:
             return Said(UNREAD, len(tile), notes="out of memory")
-        if status == _REFUSED:
+        if isinstance(told, tuple):
             return Said(REFUSED, len(tile), *_columns(tile, _fault(tile, told), len(content) < len(tile)))
-        told = bytes(told)
         # The first line has the counts, and those behind it are notes.
         return _accepted(len(tile)) if told.find(b"\n") == len(told) - 1 else Said(ACCEPTED, len(tile), notes=_notes(told))
 
@@ -260,7 +259,15 @@ def _is_tile(content: bytes) -> bool:
     return True
 
 
-def _fault(tile: bytes, told: Any) -> Tuple[Any, ...]:
+def _reported(tile: bytes) -> Union[bytes, _Fault]:
+    """The report on a tile, or the fault where it is refused."""
+    status, told = answer("report", tile)
+    if status == _NO_MEMORY:
+        raise MemoryError
+    return told if status == _REFUSED else bytes(told)
+
+
+def _fault(tile: bytes, told: _Fault) -> Tuple[Any, ...]:
     """The layer, its name, the feature, its id, the place, the cause and its name."""
     layer, feature, at, cause, name = told
     has_name, has_id, id, _, _, layer_name, _ = located(tile, told)
