@@ -150,6 +150,11 @@ mvt_status mvt_judge(const uint8_t *bytes, size_t len, mvt_fault *fault);
  * canonical, and a line for each note. Each ends in a line feed. MVT_OK, MVT_REFUSED, MVT_NO_MEMORY. */
 mvt_status mvt_report(const uint8_t *bytes, size_t len, mvt_bytes *out, mvt_fault *fault);
 
+/* What `mvt lint` says of a tile: a line for each thing that viewers stumble over, such as
+ * `lint FarPoint layer 0 feature 3 position 20000 0`. Each ends in a line feed; no bytes are no finding. What is found breaks
+ * no rule. MVT_OK, MVT_REFUSED, MVT_NO_MEMORY. */
+mvt_status mvt_lint(const uint8_t *bytes, size_t len, mvt_bytes *out, mvt_fault *fault);
+
 /* A tile as rows. MVT_OK, MVT_REFUSED, MVT_NO_MEMORY. */
 mvt_status mvt_read(const uint8_t *bytes, size_t len, mvt_tile *out, mvt_fault *fault);
 

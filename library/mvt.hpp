@@ -449,6 +449,9 @@ template <std::ranges::input_range Names>
 /// What `mvt check` says of a tile, line by line. Throws refused.
 [[nodiscard]] inline bytes report(input of) { return detail::made(of, mvt_report); }
 
+/// What `mvt lint` says of a tile: a line for each thing that viewers stumble over. Throws refused.
+[[nodiscard]] inline bytes lint(input of) { return detail::made(of, mvt_lint); }
+
 /// A picture of a tile in SVG. Throws refused.
 [[nodiscard]] inline bytes svg(input of) { return detail::made(of, mvt_svg); }
 

@@ -1,6 +1,6 @@
 #!/usr/bin/env python3
 """Puts the page into one file: its style, its scripts, the rules of docs/FORMAT.md and the
-notes of docs/PROGRAM.md, and two example tiles.
+notes and the findings of docs/PROGRAM.md, and two example tiles.
 bundle.py [PAGE.html], which is the package's own where none is named"""
 import base64
 import collections
@@ -59,6 +59,14 @@ def notes():
     return dict(rows)
 
 
+def findings():
+    """What the findings of `mvt lint` are, and what happens in which viewer, by their first word."""
+    rows = re.findall(r"^\| `lint (\w+).*?` \| (.*) \| (.*) \|$", (top / "docs/PROGRAM.md").read_text(), re.M)
+    if len(rows) < 6:
+        sys.exit("bundle.py: docs/PROGRAM.md has no table of the findings")
+    return {kind: f"{when}: {happens}" for kind, when, happens in rows}
+
+
 def examples():
     """A tile of GDAL, and the same with a bit flipped, so that a ring of its lake runs the wrong way round."""
     good = (top / "examples/tiles/gdal.mvt").read_bytes()
@@ -69,7 +77,7 @@ def examples():
 def main():
     page = pathlib.Path(sys.argv[1]) if sys.argv[1:] else top / "library/python/mvt/page/page.html"
     worker = f'"use strict";\n{script("worker.js")}'
-    parts = {"rules": rules(), "notes": notes(), "examples": examples(), "worker": worker}
+    parts = {"rules": rules(), "notes": notes(), "findings": findings(), "examples": examples(), "worker": worker}
     data = json.dumps(parts).replace("<", "\\u003c")
     code = f"\n{script('main.js')}"
     mark = base64.b64encode(hashlib.sha256(code.encode()).digest()).decode()

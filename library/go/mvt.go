@@ -105,6 +105,14 @@ func Report(tile []byte) (string, error) {
 	return string(text), err
 }
 
+// Lint says what `mvt lint` says of a tile: a line for each thing that viewers stumble over, though it keeps every rule.
+func Lint(tile []byte) (string, error) {
+	var out C.mvt_bytes
+	var fault C.mvt_fault
+	text, err := made(C.mvt_lint(start(tile), C.size_t(len(tile)), &out, &fault), tile, &out, &fault)
+	return string(text), err
+}
+
 // Version is the version of the library.
 func Version() string {
 	return C.GoString(C.mvt_version())

@@ -77,10 +77,11 @@ func TestEachTileIsAsTheProgramHasIt(t *testing.T) {
 
 func good(t *testing.T, path string, tile []byte) {
 	t.Helper()
-	for command, call := range map[string]func([]byte) (string, error){"check": mvt.Report, "show": mvt.ToJSON, "draw": mvt.ToSVG} {
+	calls := map[string]func([]byte) (string, error){"check": mvt.Report, "lint": mvt.Lint, "show": mvt.ToJSON, "draw": mvt.ToSVG}
+	for command, call := range calls {
 		out, _, status := told(t, tile, command)
 		text, err := call(tile)
-		if command != "check" {
+		if command == "show" || command == "draw" {
 			text += "\n"
 		}
 		same(t, path+" "+command, must(t, err, text), out)

@@ -149,6 +149,11 @@ class OpenTile {
     return this.#call('report');
   }
 
+  /** What `mvt lint` says. */
+  lint() {
+    return this.#call('lint');
+  }
+
   /** The lists of rows by name, each with its place in the memory and its count; and the memory. */
   async read() {
     const answer = await this.#call('read');

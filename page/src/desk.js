@@ -9,6 +9,7 @@ import { allJudged, judged, readRows } from './judging.js';
 import { integersRound } from './locate.js';
 import { Finder } from './near.js';
 import { Painter } from './painter.js';
+import { findingsOf } from './report.js';
 import { SHAPES } from './rows.js';
 import { text } from './text.js';
 
@@ -22,6 +23,7 @@ export class Desk {
   #bytes = null;
   #tile = null;
   #report = null;
+  #findings = null;
   #rows = null;
   #painter = null;
   #finder = null;
@@ -135,6 +137,18 @@ export class Desk {
 
   notes({ kind, from, end }) {
     return this.#report.some(kind, from, end);
+  }
+
+  /** The findings by kind; null where there is no memory for them. */
+  async lint() {
+    const { status, bytes } = await this.#tile.lint();
+    if (status !== OK) return null;
+    this.#findings = findingsOf(text(bytes));
+    return this.#findings.kinds();
+  }
+
+  findings({ kind, from, end }) {
+    return this.#findings.some(kind, from, end);
   }
 
   /** Some layers, by their indices. */

@@ -1,19 +1,44 @@
-// The report of `mvt check`, taken apart: its first line, and its notes by kind.
+// The report of `mvt check`, taken apart: its first line, and its notes by kind; and the findings of `mvt lint` by kind.
 
-export class Report {
-  #notes = new Map();
+/** Lines such as `note KIND layer 0 feature 1`, by their second word. */
+export class Remarks {
+  #lines = new Map();
 
-  /** `told` is the report's text. */
-  constructor(told) {
-    const [first, ...lines] = told.trimEnd().split('\n');
-    this.first = first;
+  constructor(lines) {
     this.count = lines.length;
-    this.isCanonical = first.endsWith('canonical yes');
     for (const line of lines) {
       const kind = line.split(' ')[1];
-      if (!this.#notes.has(kind)) this.#notes.set(kind, []);
-      this.#notes.get(kind).push(line);
+      if (!this.#lines.has(kind)) this.#lines.set(kind, []);
+      this.#lines.get(kind).push(line);
     }
+  }
+
+  /** How many there are of each kind, `{kind, count}`. */
+  kinds() {
+    return [...this.#lines].map(([kind, lines]) => ({ kind, count: lines.length }));
+  }
+
+  /** Some of a kind, `{line, layer, feature}`; what a line doesn't name is null. */
+  some(kind, from, end) {
+    return this.of(kind).slice(from, end).map((line) => ({
+      line,
+      layer: numberBehind(line, 'layer'),
+      feature: numberBehind(line, 'feature'),
+    }));
+  }
+
+  of(kind) {
+    return this.#lines.get(kind) ?? [];
+  }
+}
+
+export class Report extends Remarks {
+  /** `told` is the report's text. */
+  constructor(told) {
+    const [first, ...lines] = linesOf(told);
+    super(lines);
+    this.first = first;
+    this.isCanonical = first.endsWith('canonical yes');
   }
 
   /** How many layers and features there are. */
@@ -22,24 +47,19 @@ export class Report {
     return { layers: Number(layers), features: Number(features) };
   }
 
-  /** How many notes there are of each kind, `{kind, count}`. */
-  kinds() {
-    return [...this.#notes].map(([kind, lines]) => ({ kind, count: lines.length }));
-  }
-
-  /** Some notes of a kind, `{line, layer, feature}`; what a note doesn't name is null. */
-  some(kind, from, end) {
-    return (this.#notes.get(kind) ?? []).slice(from, end).map((line) => ({
-      line,
-      layer: numberBehind(line, 'layer'),
-      feature: numberBehind(line, 'feature'),
-    }));
-  }
-
   /** How many layers are of another version, and weren't looked into. */
   get foreign() {
-    return this.#notes.get('Foreign')?.length ?? 0;
+    return this.of('Foreign').length;
   }
+}
+
+/** The findings that a text of `mvt lint` has. */
+export function findingsOf(told) {
+  return new Remarks(linesOf(told));
+}
+
+function linesOf(told) {
+  return told === '' ? [] : told.trimEnd().split('\n');
 }
 
 function numberBehind(line, word) {

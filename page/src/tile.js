@@ -4,7 +4,7 @@ import { foreign, plain } from './foreign.js';
 import { HexView } from './hex.js';
 import { jsonView } from './json-view.js';
 import { Look } from './look.js';
-import { showNotes } from './notes.js';
+import { showFindings, showNotes } from './notes.js';
 import { showFault } from './refused.js';
 import { Saving } from './saving.js';
 import { counted, grouped, size, sizeWith } from './text.js';
@@ -17,6 +17,7 @@ export class TileView {
   #name;
   #opened;
   #data;
+  #jump = (layer, feature) => this.look?.chooseIn(layer, feature);
 
   constructor(client, name, opened, { ways = [], data }) {
     this.#client = client;
@@ -64,6 +65,7 @@ export class TileView {
     this.rest.append(this.#facts(), canonical, notes, looking, buttons, folded('JSON', () => jsonView(this.#client)), this.#bytes());
     if (!document.hidden) await this.look?.picture.drawn;
     notes.append(this.#notes(await this.#client.ask('report')));
+    notes.append(this.#findings(await this.#client.ask('lint')));
     this.#sayCanonical(canonical, await this.#client.ask('canonical'));
   }
 
@@ -76,8 +78,12 @@ export class TileView {
   #notes({ notes, why }) {
     this.#opened.verdict.notes = notes;
     if (why !== null) return element('p', { class: 'quiet' }, [`Whether there are notes isn’t known: ${why}.`]);
-    const jump = (layer, feature) => this.look?.chooseIn(layer, feature);
-    return notes.length === 0 ? '' : showNotes(this.#client, notes, this.#data.notes, jump);
+    return notes.length === 0 ? '' : showNotes(this.#client, notes, this.#data.notes, this.#jump);
+  }
+
+  #findings(kinds) {
+    if (kinds === null) return element('p', { class: 'quiet' }, ['Whether viewers stumble over it isn’t known: there is no memory for it.']);
+    return kinds.length === 0 ? '' : showFindings(this.#client, kinds, this.#data.findings, this.#jump);
   }
 
   #sayCanonical(box, { isSame, length, said, at, trail, status }) {

@@ -283,6 +283,8 @@ static void call(const char *path) {
     require(mvt_judge(bytes, len, &fault) == shown, "a tile is accepted where it is shown");
     require(mvt_report(bytes, len, &out, &fault) == shown, "a tile is reported on where it is shown");
     if (shown == MVT_OK) sum += sum_of(&out);
+    require(mvt_lint(bytes, len, &out, &fault) == shown, "a tile is linted where it is shown");
+    if (shown == MVT_OK) sum += sum_of(&out);
     const uint32_t read = mvt_read(bytes, len, &rows, &fault);
     decode(bytes, len, read, &rows, &fault);
     const mvt_bytes names[] = {{(const uint8_t *)"water", 5}, {(const uint8_t *)"\xff", 1}};

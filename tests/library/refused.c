@@ -61,6 +61,7 @@ typedef struct {
 static uint32_t rewrite(const uint8_t *b, size_t n, output *o, mvt_fault *f) { return mvt_rewrite(b, n, &o->bytes, f); }
 static uint32_t json(const uint8_t *b, size_t n, output *o, mvt_fault *f) { return mvt_json(b, n, &o->bytes, f); }
 static uint32_t svg(const uint8_t *b, size_t n, output *o, mvt_fault *f) { return mvt_svg(b, n, &o->bytes, f); }
+static uint32_t lint(const uint8_t *b, size_t n, output *o, mvt_fault *f) { return mvt_lint(b, n, &o->bytes, f); }
 static uint32_t report(const uint8_t *b, size_t n, output *o, mvt_fault *f) { return mvt_report(b, n, &o->bytes, f); }
 static uint32_t judge(const uint8_t *b, size_t n, output *o, mvt_fault *f) {
     const uint32_t status = mvt_judge(b, n, f);
@@ -111,7 +112,8 @@ static const task TASKS[] = {
     {"mvt_rewrite", rewrite, free_bytes}, {"mvt_json", json, free_bytes}, {"mvt_svg", svg, free_bytes},
     {"mvt_extract", extract, free_bytes}, {"mvt_read", rows, free_tile},
     {"mvt_read_layer", layer, free_tile},
-    {"mvt_report", report, free_bytes},   {"mvt_judge", judge, free_bytes},
+    {"mvt_report", report, free_bytes},   {"mvt_lint", lint, free_bytes},
+    {"mvt_judge", judge, free_bytes},
     {"mvt_write", written, free_bytes},      {"mvt_builder_finish", built, free_bytes},
 };
 

@@ -27,7 +27,7 @@ TILES = Path(__file__).resolve().parents[2] / "examples" / "tiles"
 WHOLE = ("gdal", "postgis")
 SVG = "{http://www.w3.org/2000/svg}"
 LISTS = ("layers", "features", "keys", "values", "tags", "parts", "points", "integers", "texts")
-CALLS = (mvt.judge, mvt.read, mvt.rows, mvt.report, mvt.rewrite, mvt.to_json, mvt.to_svg)
+CALLS = (mvt.judge, mvt.lint, mvt.read, mvt.rows, mvt.report, mvt.rewrite, mvt.to_json, mvt.to_svg)
 
 
 def tile(name):
@@ -137,6 +137,24 @@ class WholeTiles(unittest.TestCase):
             self.assertEqual(mvt.report(of), told)
             self.assertIsNone(mvt.judge(of))
         self.assertEqual(len(mvt.report(made[1]).splitlines()), 11)
+
+    def test_lints_what_the_program_lints(self):
+        far = field(2, field(3, 1) + field(4, varint(9) + zigzags(20000, -7)))
+        large = field(2, field(1, 2**53) + field(2, varint(0) + varint(0)) + field(3, 1) + field(4, varint(9) + zigzags(1, 1)))
+        unknown = field(2, b"") + field(2, field(4, varint(7)))
+        entries = field(3, b"n") + field(4, field(4, 2**64 - 2**53))
+        found = field(3, field(15, 2) + field(1, b"a") + far + large + unknown + entries) + field(
+            3, field(15, 2) + field(1, b"b") + field(5, 0))
+        self.assertEqual(mvt.lint(found), [
+            mvt.Finding("FarPoint", 0, 0, None, (20000, -7)),
+            mvt.Finding("LargeId", 0, 1),
+            mvt.Finding("LargeNumber", 0, 1, 0),
+            mvt.Finding("NoGeometry", 0, 2),
+            mvt.Finding("UnknownGeometry", 0, 3),
+            mvt.Finding("ZeroExtent", 1),
+        ])
+        for of in [path.read_bytes() for path in sorted(TILES.glob("*.mvt"))]:
+            self.assertEqual(mvt.lint(of), [])
 
     def test_rewrites(self):
         for name in WHOLE:

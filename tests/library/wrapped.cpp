@@ -260,6 +260,7 @@ void call(const std::string &command, const std::vector<std::string_view> &names
     if (command == "pieces") return pieces(input);
     if (command == "write") return write(input);
     if (command == "check") return put(mvt::report(input));
+    if (command == "lint") return put(mvt::lint(input));
     put(command == "show" ? mvt::json(input) : mvt::svg(input));
     std::cout << '\n';
 }

@@ -75,6 +75,7 @@ static void answer(const uint8_t *bytes, size_t len) {
     put_made(mvt_json(bytes, len, &made, &fault), &fault, &made);
     put_made(mvt_svg(bytes, len, &made, &fault), &fault, &made);
     put_made(mvt_report(bytes, len, &made, &fault), &fault, &made);
+    put_made(mvt_lint(bytes, len, &made, &fault), &fault, &made);
     put_tile(mvt_read(bytes, len, &tile, &fault), &fault, &tile);
 }
 

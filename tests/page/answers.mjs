@@ -40,6 +40,7 @@ export async function answersOf(codec, bytes) {
   made(await tile.json());
   made(await tile.svg());
   made(await tile.report());
+  made(await tile.lint());
   const read = await tile.read();
   status(read);
   if (read.status === 0) {

@@ -12,7 +12,7 @@ import { coloured, laidOut } from '../../page/src/json.js';
 import { kindOfFile } from '../../page/src/kinds.js';
 import { stemOf } from '../../page/src/names.js';
 import { Finder } from '../../page/src/near.js';
-import { Report } from '../../page/src/report.js';
+import { Report, findingsOf } from '../../page/src/report.js';
 import { Rows } from '../../page/src/rows.js';
 import { spelledBytes, spelledOffset } from '../../page/src/spelled.js';
 import { answerOf, explainedOf, framesOf, partsOf, rowsOf } from '../../page/src/spelling.js';
@@ -134,6 +134,11 @@ const report = new Report('ok layers 3 features 7 canonical no\nnote Foreign lay
 await is('notes by kind', report.kinds(), [{ kind: 'Foreign', count: 2 }, { kind: 'RepeatedId', count: 1 }]);
 await is('layers that were not looked into', report.foreign, 2);
 await is('a note leads to its feature', report.some('RepeatedId', 0, 9), [{ line: 'note RepeatedId layer 1 feature 2 earlier 0', layer: 1, feature: 2 }]);
+
+const findings = findingsOf('lint ZeroExtent layer 1\nlint FarPoint layer 2 feature 3 position 20000 -7\n');
+await is('findings by kind', findings.kinds(), [{ kind: 'ZeroExtent', count: 1 }, { kind: 'FarPoint', count: 1 }]);
+await is('a finding leads to its feature', findings.some('FarPoint', 0, 9), [{ line: 'lint FarPoint layer 2 feature 3 position 20000 -7', layer: 2, feature: 3 }]);
+await is('no findings', findingsOf('').kinds(), []);
 
 // ---- rows
 

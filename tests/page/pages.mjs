@@ -122,6 +122,16 @@ await onPage('notes are told in words', {}, async (page) => {
     [['1 × NoFeatures: a layer has no feature'], ['note NoFeatures layer 0']]);
 });
 
+await onPage('what viewers stumble over is told beside the notes, and leads to its feature', {}, async (page) => {
+  await look(page, [made('bare-feature.mvt', Buffer.of(0x1a, 7, 0x78, 2, 0x0a, 1, 0x61, 0x12, 0))]);
+  await page.until("document.querySelector('[aria-label=Findings] tbody button')");
+  const told = [await page.value(texts('.report summary')), await page.value(texts('.report tbody code')), await page.value(textOf('.verdict'))];
+  await page.value("document.querySelector('[aria-label=Findings] tbody button').click()");
+  await page.until("document.querySelector('.feature h4')");
+  return same([told, await page.value(textOf('.feature h4'))],
+    [[['1 × NoGeometry: a feature of unknown type has no integers: a line layer of Mapbox GL ends the whole viewer'], ['lint NoGeometry layer 0 feature 0'], 'accepted'], 'a, feature 0']);
+});
+
 await onPage('300 notes are grouped, all can be had, and each leads to its feature', {}, async (page) => {
   const point = [0x12, 9, 0x08, 1, 0x18, 1, 0x22, 3, 0x09, 4, 4];
   const payload = [0x78, 2, 0x0a, 1, 0x61, ...Array(301).fill(point).flat()];

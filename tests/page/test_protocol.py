@@ -54,7 +54,7 @@ class Served(unittest.TestCase):
 class Calls(Served):
     def test_texts_and_bytes(self):
         for name, wanted in [("report", mvt.report(GDAL).encode()), ("json", mvt.to_json(GDAL).encode()), ("svg", mvt.to_svg(GDAL).encode()),
-                             ("rewrite", mvt.rewrite(GDAL)), ("judge", b"")]:
+                             ("rewrite", mvt.rewrite(GDAL)), ("judge", b""), ("lint", b"")]:
             self.assertEqual(self.serving.call(name, GDAL), struct.pack("<II", 0, 0) + wanted, name)
 
     def test_layers_that_are_named(self):
@@ -67,7 +67,7 @@ class Calls(Served):
 
     def test_a_fault(self):
         wanted = struct.pack("<IIqqQII", 1, 0, 0, 0, 8, 22, 9) + b"FirstRing"
-        for name in ("judge", "read", "report", "rewrite", "json", "svg"):
+        for name in ("judge", "read", "report", "lint", "rewrite", "json", "svg"):
             self.assertEqual(self.serving.call(name, BROKEN), wanted, name)
         self.assertEqual(self.serving.call("extract", frames(b"a", BROKEN)), wanted)
         self.assertEqual(self.serving.call("judge", b"\0"), struct.pack("<IIqqQII", 1, 0, -1, -1, 0, 3, 11) + b"FieldNumber")

@@ -15,6 +15,7 @@ uncompressed tile. Threads may call at the same time.
 from typing import TYPE_CHECKING, Any, Union
 
 from ._errors import MvtError, NoLayer, NoTile, OutOfRange, Refused, TooLarge
+from ._lint import Finding, lint
 from ._mvt import (
     Builder,
     Decoder,
@@ -62,6 +63,7 @@ __all__ = [
     "Decoder",
     "Feature",
     "FeatureRow",
+    "Finding",
     "Float",
     "Foreign",
     "Int",
@@ -87,6 +89,7 @@ __all__ = [
     "dtype",
     "extract",
     "judge",
+    "lint",
     "read",
     "read_layer",
     "report",

@@ -42,7 +42,7 @@ static PyObject *answered(state *of, uint32_t status, const mvt_fault *fault, he
 static const struct {
     const char *name;
     mvt_status (*call)(const uint8_t *, size_t, mvt_bytes *, mvt_fault *);
-} MAKING[] = {{"report", mvt_report}, {"rewrite", mvt_rewrite}, {"json", mvt_json}, {"svg", mvt_svg}, {NULL, NULL}};
+} MAKING[] = {{"report", mvt_report}, {"lint", mvt_lint}, {"rewrite", mvt_rewrite}, {"json", mvt_json}, {"svg", mvt_svg}, {NULL, NULL}};
 
 /* Works on a tile, with the lock let go. */
 static uint32_t work(const char *name, PyObject *tile, unsigned long long most, held *out, mvt_fault *fault) {
@@ -150,7 +150,7 @@ static PyObject *located(PyObject *module, PyObject *words) {
 PyMethodDef ANSWERS_CALLS[] = {
     {"answer", answer, METH_VARARGS,
      "answer($module, call, tile, most=18446744073709551615, /)\n--\n\n"
-     "The status of a call (judge, report, rewrite, json, svg or rows) and the fault, or what was made."},
+     "The status of a call (judge, report, lint, rewrite, json, svg or rows) and the fault, or what was made."},
     {"answer_extract", answer_extract, METH_VARARGS,
      "answer_extract($module, tile, names, /)\n--\n\nThe same, of the layers that bytes name."},
     {"located", located, METH_VARARGS,

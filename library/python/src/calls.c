@@ -134,6 +134,9 @@ static PyObject *rewrite(PyObject *module, PyObject *words, PyObject *named) {
 static PyObject *report(PyObject *module, PyObject *words, PyObject *named) {
     return made_of(module, words, named, mvt_report, as_text);
 }
+static PyObject *lint_lines(PyObject *module, PyObject *words, PyObject *named) {
+    return made_of(module, words, named, mvt_lint, as_text);
+}
 static PyObject *to_json(PyObject *module, PyObject *words, PyObject *named) {
     return made_of(module, words, named, mvt_json, as_text);
 }
@@ -223,6 +226,7 @@ PyMethodDef CALLS[] = {
     {"report", WITH_WORDS(report),
      OF_TILE(report) "What `mvt check` says of a tile: a line of counts, and a line for each thing that is worth a remark. "
                      "Raises\nRefused."},
+    {"lint_lines", WITH_WORDS(lint_lines), OF_TILE(lint_lines) "What `mvt lint` prints of a tile. Raises Refused."},
     {"to_json", WITH_WORDS(to_json), OF_TILE(to_json) "A tile as JSON, in one line. Raises Refused."},
     {"to_svg", WITH_WORDS(to_svg), OF_TILE(to_svg) "A picture of a tile in SVG. Raises Refused."},
     {"version", version, METH_NOARGS, "version($module)\n--\n\nThe version of the library, which is that of this module."},

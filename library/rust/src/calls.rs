@@ -214,6 +214,19 @@ pub fn report(bytes: &[u8]) -> Result<String, Error> {
     Ok(text.into_text())
 }
 
+/// What `mvt lint` says of a tile: a line for each thing that viewers stumble over, though it keeps every rule.
+///
+/// # Errors
+///
+/// [`Error::Refused`], [`Error::OutOfMemory`].
+pub fn lint(bytes: &[u8]) -> Result<String, Error> {
+    // SAFETY: as in `read`.
+    let text = made(bytes, |out, fault| unsafe {
+        sys::mvt_lint(bytes.as_ptr(), bytes.len(), out, fault)
+    })?;
+    Ok(text.into_text())
+}
+
 /// The canonical bytes of a tile that was read.
 ///
 /// # Errors

@@ -202,6 +202,7 @@ extern "C" {
     pub fn mvt_svg(bytes: *const u8, len: usize, out: *mut Bytes, fault: *mut Fault) -> u32;
     pub fn mvt_judge(bytes: *const u8, len: usize, fault: *mut Fault) -> u32;
     pub fn mvt_report(bytes: *const u8, len: usize, out: *mut Bytes, fault: *mut Fault) -> u32;
+    pub fn mvt_lint(bytes: *const u8, len: usize, out: *mut Bytes, fault: *mut Fault) -> u32;
     pub fn mvt_read(bytes: *const u8, len: usize, out: *mut Tile, fault: *mut Fault) -> u32;
     pub fn mvt_read_within(
         bytes: *const u8,

@@ -51,6 +51,8 @@ fn good(path: &str, bytes: &[u8], check: &Output) {
         check.stdout,
         "{path}"
     );
+    let lint = told(&["lint"], path).stdout;
+    assert_eq!(mvt::lint(bytes).unwrap().as_bytes(), lint, "{path}");
     let json = mvt::to_json(bytes).unwrap() + "\n";
     assert_eq!(json.as_bytes(), told(&["show"], path).stdout, "{path}");
     let svg = mvt::to_svg(bytes).unwrap() + "\n";

@@ -55,6 +55,7 @@ CALLS: Dict[str, Callable[[bytearray], Answer]] = {
     "explain": _explain,
     "read": partial(_made, "rows"),
     "report": partial(_made, "report"),
+    "lint": partial(_made, "lint"),
     "rewrite": partial(_made, "rewrite"),
     "json": partial(_made, "json"),
     "svg": partial(_made, "svg"),
