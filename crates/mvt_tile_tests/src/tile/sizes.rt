@@ -142,7 +142,8 @@ fn takes_any_number_of_attributes(rt: HostRuntime) {
 
 // A tile is made, read again and written to a writer.
 fn expect_round_trip(rt: &(impl Abort + AllocGlobal), tile: &Tile) {
-    expect!(rt; is_valid(tile));
+    let valid = validate(rt.alloc(), tile).expect(rt, "an answer");
+    expect!(rt; valid);
     let bytes = encode(rt.alloc(), tile).expect(rt, "bytes");
     let read = decode(rt.alloc(), &bytes).expect(rt, "a tile");
     expect!(rt; read == *tile);
