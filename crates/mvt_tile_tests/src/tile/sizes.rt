@@ -9,7 +9,7 @@ use mvt_io::MemorySink;
 use mvt_message::{Feature, Item, Layer};
 use mvt_tile::{
     NamedLayers, Tile, decode, encode, extract, extract_bytes, extract_tile, is_valid, notes,
-    read_tile, write_tile,
+    read_tile, validate, write_tile,
 };
 use std::process::Abort;
 
