@@ -39,7 +39,8 @@ mod value;
 
 pub use builder::Builder;
 pub use calls::{
-    extract, judge, lint, read, read_layer, read_within, report, rewrite, to_json, to_svg, version, write,
+    extract, judge, lint, read, read_layer, read_within, report, rewrite, to_json, to_svg, version,
+    write,
 };
 pub use decoder::Decoder;
 pub use error::{Error, Refused, RowsFault};
