@@ -95,15 +95,16 @@ def kind_of(feature, cause):
 
 
 def table_of_sets(folders, found):
-    rows = ["| Producer | Set | Tiles | Refused | by cause | Accepted with a note | Accepted with a finding |", "|---|---|---|---|---|---|---|"]
+    rows = ["| Producer | Set | Tiles | Refused | by cause | Accepted with a note |", "|---|---|---|---|---|---|"]
+    findings = []
     for folder in folders:
         tiles, notes, refused = found[folder.name]
-        findings = ", ".join(f"{kind} {len(files)}" for kind, files in sorted(lint(tiles).items())) or "-"
+        findings += [f"{kind} in {len(files)} tiles of {folder.name}" for kind, files in sorted(lint(tiles).items())]
         causes = collections.Counter(cause for *_, cause in refused.values())
         by_cause = ", ".join(f"{cause} {n}" for cause, n in causes.most_common()) or "-"
         by_note = ", ".join(f"{note} {len(files)}" for note, files in sorted(notes.items())) or "-"
-        rows.append(f"| {named(producer(folder.name))} | {folder.name} | {len(tiles):,} | {len(refused):,} | {by_cause} | {by_note} | {findings} |")
-    return rows
+        rows.append(f"| {named(producer(folder.name))} | {folder.name} | {len(tiles):,} | {len(refused):,} | {by_cause} | {by_note} |")
+    return rows + ["", f"`mvt lint` finds {', '.join(findings) or 'nothing'} in the accepted tiles."]
 
 
 def is_corner(feature, at):
@@ -119,26 +120,26 @@ def section(key, kind, cases, pictures):
     """A fault of a producer: how many features have it, the smallest, and what others make of it."""
     tile, feature, at, cause = smallest(cases)
     lines = [f"### {named(key)}: {kind}", ""]
-    lines.append(f"{len(cases):,} features of the refused tiles, in {len({case[0] for case in cases}):,} tiles.")
+    lines.append(f"{len(cases):,} features in {len({case[0] for case in cases}):,} tiles.")
     if cause == "FirstRing":
         areas = sorted(-ring_area(case[1].first_ring()) for case in cases)
-        lines[-1] += f" Twice the area of the first ring: -{areas[0]:,} to -{areas[-1]:,}, in the middle -{areas[len(areas) // 2]:,}."
+        lines[-1] += f" Twice the area of the first ring: -{areas[0]:,} to -{areas[-1]:,}, median -{areas[len(areas) // 2]:,}."
         further = [ring for case in cases for ring in case[1].paths()[1:]]
         if further:
             turned = sum(ring_area(ring) > 0 for ring in further)
-            lines[-1] += f" They have {len(further):,} further rings, of which {turned:,} have a positive area."
+            lines[-1] += f" Of {len(further):,} later rings {turned:,} have a positive area."
     if cause == "ZeroSegment":
         corners = sum(is_corner(case[1], case[2]) for case in cases)
-        lines[-1] += f" In {corners:,} of them the point stands at a corner of the tile with its margin."
-    lines += ["", f"The smallest, feature {feature.where[1]} of layer `{feature.layer}` of `{tile}`:", ""]
-    lines += ["    " + " ".join(map(str, feature.integers)), ""]
-    lines.append(f"- `mvt check`, of the feature alone: `layer 0 feature 0 at {at}: {NUMBERS[cause]} {cause}`.")
+        lines[-1] += f" In {corners:,} of them the repeated point is a corner of the tile with its margin."
     if cause == "FirstRing":
-        lines[-1] += f" Its first ring {feature.first_ring()} has {ring_area(feature.first_ring()):,} as twice its area."
+        what = f"has {ring_area(feature.first_ring()):,} as twice the area of its first ring"
     elif cause == "ZeroSegment":
-        lines[-1] += f" The point {feature.position_at(at)} stands twice, one after the other."
-    lines.append(f"- `protoc --decode`: {protoc_says(feature.tile())}.")
-    lines.append(f"- `ogrinfo`: {gdal_says(feature.tile())}.")
+        what = f"has the point {feature.position_at(at)} twice in a row"
+    else:
+        what = f"breaks the rule {NUMBERS[cause]} {cause} at {at}"
+    lines[-1] += f" The smallest, feature {feature.where[1]} of layer `{feature.layer}` of `{tile}`, {what}:"
+    lines += ["", "    " + " ".join(map(str, feature.integers)), ""]
+    lines.append(f"`protoc` {protoc_says(feature.tile())}. `ogrinfo` {gdal_says(feature.tile())}.")
     if pictures:
         name = f"{key}-{re.sub('[^a-zA-Z0-9]+', '-', kind).lower()}.svg"
         (pictures / name).write_text(picture(feature, at, cause))

@@ -9,7 +9,7 @@ here = pathlib.Path(__file__).parent.resolve()
 
 def protoc_says(tile):
     run = subprocess.run(["protoc", f"-I{here.parent}/tiles", "--decode=Tile", "vector_tile.proto"], input=tile, capture_output=True)
-    return "refuses" if run.returncode else "accepts, without a word" if not run.stderr else "accepts, with a warning"
+    return "refuses it" if run.returncode else "accepts it" if not run.stderr else "accepts it with a warning"
 
 
 def gdal_says(tile):
@@ -18,11 +18,11 @@ def gdal_says(tile):
         at.write_bytes(tile)
         run = subprocess.run(["ogrinfo", "-al", "-q", f"MVT:{at}"], capture_output=True, text=True)
     errors = [line for line in run.stderr.splitlines() if line]
-    said = f", and prints `{errors[0]}`" if errors else ", without a word"
+    said = f", and prints `{errors[0]}`" if errors else ""
     if run.returncode:
-        return "refuses" + said
+        return "refuses it" + said
     drawn = re.search(r"^  ((MULTI)?(POINT|LINESTRING|POLYGON) (\(|EMPTY).*)", run.stdout, re.M)
     if not drawn:
-        return "accepts, and shows no geometry" + said
+        return "shows no geometry" + said
     text = drawn[1] if len(drawn[1]) <= 200 else drawn[1][:200] + ".."
-    return f"accepts, and shows `{text}`" + said
+    return f"shows `{text}`" + said

@@ -24,7 +24,14 @@ folder, mvt, page = map(pathlib.Path, sys.argv[1:])
 
 
 def ended(status):
-    return "the viewer ends: segmentation fault" if status == 139 else f"the viewer ends: status {status}"
+    return "crashes" if status == 139 else f"ends with status {status}"
+
+
+def what_came(a, b):
+    """Whether the layer that shows the finding is drawn, and the rest of the tile."""
+    if b:
+        return "drawn" if a else "nothing"
+    return "drawn alone" if a else "nothing at all"
 
 
 def by_mapbox(tile, kind):
@@ -34,8 +41,8 @@ def by_mapbox(tile, kind):
         return ended(drawn.status)
     a, b = drawn.columns
     if drawn.words:
-        return f"the tile is dropped: `{drawn.words[0]}`" if not b else f"says `{drawn.words[0]}`"
-    return ("drawn" if a else "nothing comes") + ("" if b else ", nor the rest of the tile")
+        return f"drops the tile: `{drawn.words[0]}`" if not b else f"says `{drawn.words[0]}`"
+    return what_came(a, b)
 
 
 def line_by_mapbox(name, tile):
@@ -45,7 +52,7 @@ def line_by_mapbox(name, tile):
     drawn = draw(tile, [("a", "line"), ("b", "circle")])
     if drawn.columns is None:
         return ended(drawn.status)
-    return "as it is" if is_whole(name, drawn.columns[0]) else "another line: the position is left out"
+    return "drawn" if is_whole(name, drawn.columns[0]) else "another line"
 
 
 def is_whole(name, columns):
@@ -59,22 +66,31 @@ def by_qgis(name, file):
         return ended(ran.returncode)
     found = json.loads(ran.stdout)
     if FAR.match(name) and found["lines"]:
-        return "as it is" if is_whole(name, found["lines"]) else "another line"
-    drawn = [kind for kind in ("lines", "polygons") if found[kind]]
-    return ("draws " + ", ".join(drawn) if drawn else "nothing comes") + ("" if found["points"] else ", nor the rest of the tile")
+        return "drawn" if is_whole(name, found["lines"]) else "another line"
+    return what_came(found["lines"] or found["polygons"], found["points"])
 
 
 def lint(file):
+    """The kinds of the findings; a line that is none stands whole."""
     ran = subprocess.run([mvt, "lint"], stdin=open(file, "rb"), capture_output=True, text=True)
-    return ", ".join(f"`{line}`" for line in (ran.stdout + ran.stderr).splitlines()) or "-"
+    return ", ".join(re.sub(r"^lint (\w+).*", r"\1", line) for line in (ran.stdout + ran.stderr).splitlines()) or "-"
 
 
 def evidence_row(evidence):
     name, tile = evidence
     file = folder / f"{name}.mvt"
     file.write_bytes(tile)
-    return [name, lint(file), by_mapbox(tile, "fill"), line_by_mapbox(name, tile), by_mapbox(tile, "circle"), by_qgis(name, file),
-            ogrinfo(tile)]
+    cells = lint(file), by_mapbox(tile, "fill"), line_by_mapbox(name, tile), by_mapbox(tile, "circle"), by_qgis(name, file)
+    return [f"`{name}`", *cells], ogrinfo(tile)
+
+
+def evidence_table(rows):
+    """The table, and below it which of the tiles GDAL refuses."""
+    rows = list(rows)
+    heads = ["Tile", "`mvt lint`", "Mapbox GL, fill", "Mapbox GL, line", "Mapbox GL, circle", "QGIS"]
+    refused = ", ".join(row[0] for row, said in rows if said == "refuses")
+    below = f"`ogrinfo` refuses {refused}." if refused else "`ogrinfo` accepts each of these tiles."
+    return table(heads, (row for row, _ in rows)) + f"\n{below}\n"
 
 
 def with_extent(tile):
@@ -92,19 +108,19 @@ def broken_by_mapbox(tile, kinds=KINDS):
     """What Mapbox GL does with layer `a`, as fill, line and circle at once; where that ends the viewer, without the line."""
     drawn = draw(tile, [("a", kind) for kind in kinds])
     if drawn.columns is None:
-        without = f"; without a line layer {broken_by_mapbox(tile, ('circle', 'fill'))}" if "line" in kinds else ""
+        without = f"; without lines {broken_by_mapbox(tile, ('circle', 'fill'))}" if "line" in kinds else ""
         return ended(drawn.status) + without
     if drawn.words:
-        return f"the tile is dropped: `{drawn.words[0]}`"
+        return f"drops the tile: `{drawn.words[0]}`"
     shown = [kind for kind, columns in zip(kinds, drawn.columns) if columns]
-    return "drawn as " + ", ".join(shown) if shown else "nothing comes"
+    return "draws " + ", ".join(shown) if shown else "nothing"
 
 
 def broken_row(told):
-    name, _, fault = told.split("\t")
+    name = told.split("\t")[0]
     tile = tile_of(name)
     mended = with_extent(tile) if len(tile) < 1 << 20 else None
-    return [name, f"`{fault}`", protoc(tile), ogrinfo(tile), broken_by_mapbox(tile), broken_by_mapbox(mended) if mended else "-"]
+    return [f"`{name}`", protoc(tile), ogrinfo(tile), broken_by_mapbox(mended or tile)]
 
 
 def table(heads, rows):
@@ -121,8 +137,7 @@ def between(text, name, rows):
 
 folder.mkdir(parents=True, exist_ok=True)
 with ThreadPoolExecutor(2) as pool:
-    found = table(["Tile", "`mvt lint`", "Mapbox GL, fill", "Mapbox GL, line", "Mapbox GL, circle", "QGIS", "`ogrinfo`"],
-                  pool.map(evidence_row, tiles()))
-    refused = table(["Tile", "`mvt check`", "`protoc --decode`", "`ogrinfo`", "Mapbox GL", "Mapbox GL, with an extent"],
+    found = evidence_table(pool.map(evidence_row, tiles()))
+    refused = table(["Tile", "`protoc --decode`", "`ogrinfo` shows", "Mapbox GL"],
                     pool.map(broken_row, (broken / "tiles.tsv").read_text().splitlines()))
 page.write_text(between(between(page.read_text(), "evidence", found), "broken", refused))

@@ -1,4 +1,4 @@
-"""Of an MBTiles file that a producer wrote the audit says what docs/PRODUCERS.md says of the same tiles as files:
+"""Of an MBTiles file that a producer wrote the audit says what docs/OTHER_PROGRAMS.md says of the same tiles as files:
 test_producers.py FOLDER SET, where the file is FOLDER/SET.mbtiles. FOLDER keeps the audit, in SET-audit."""
 
 import re
@@ -10,7 +10,7 @@ from common import TOP, audit, json, rows
 
 def told(name):
     """The numbers of a set in the table: tiles, refused, these by cause, and accepted tiles by note."""
-    for line in Path(TOP, "docs", "PRODUCERS.md").read_text().splitlines():
+    for line in Path(TOP, "docs", "OTHER_PROGRAMS.md").read_text().splitlines():
         columns = [column.strip() for column in line.split("|")]
         if columns[2:3] == [name]:
             counts = [dict(re.findall(r"(\w+) (\d+)", column)) for column in columns[5:7]]
