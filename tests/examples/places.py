@@ -3,9 +3,9 @@
 
 Has the program explain each tile (`PROGRAM explain`), inputs that are no tiles, and 1,000 tiles whose tags and geometry
 are spelled in pieces. Of those that it refuses, the fault is taken from its line, and this script looks for the place by
-itself, in a way that depends on the cause; it shares no code with the program. The rows of bytes are read back, and
-compared with the tile, and the sentences with docs/FORMAT.md. tests/library/mutate.py makes changed tiles. The last line
-is 'places: N passed, M failed'. tests/library/test_places.py and tests/page/test_places.py ask the library and the page for
+itself, in a way that depends on the cause; it shares no code with the program. The rows of bytes are read back and compared
+with the tile, and the sentences with examples/tiles/broken/explained.txt. tests/library/mutate.py makes changed tiles. The
+last line is 'places: N passed, M failed'. tests/library/test_places.py and tests/page/test_places.py ask the library and the page for
 the same places."""
 
 import gzip
@@ -193,11 +193,11 @@ def looks_like(tile):
 
 
 def documented():
-    """The sentence of each cause in docs/FORMAT.md, by its number: that of the worked tiles which break the rule."""
+    """The sentence of each cause in explained.txt, by its number: that of the worked tiles which break the rule."""
     found = {}
-    text = (TOP / "docs" / "FORMAT.md").read_text()
-    for cause, block in re.findall(r"^    \$ .*broken/(\d+)-(?!WireType-gzip).*\n((?:    .*\n)+)", text, re.MULTILINE):
-        lines = [line.strip() for line in block.splitlines()]
+    text = (TOP / "examples" / "tiles" / "broken" / "explained.txt").read_text()
+    for cause, block in re.findall(r"^\$ .*broken/(\d+)-(?!WireType-gzip).*\n((?:.+\n)+)", text, re.MULTILINE):
+        lines = block.splitlines()
         sentence = next(line for line in lines if not re.match("layer |bytes? |before byte ", line))
         assert found.setdefault(int(cause), sentence) == sentence
     return found

@@ -1,7 +1,7 @@
 """Where faults stand, as the library says, and as tests/examples/places.py finds by itself: test_places.py TILE..
 
 Of the tiles, of inputs that are no tiles, and of tiles in pieces, those that are refused are compared. What is said of them
-is docs/FORMAT.md's."""
+is that of examples/tiles/broken/explained.txt."""
 
 import sys
 import unittest

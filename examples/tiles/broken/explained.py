@@ -1,5 +1,5 @@
 #!/usr/bin/env python3
-"""What `mvt explain` says of each broken tile, at the end of docs/FORMAT.md: explained.py PROGRAM [--write]
+"""What `mvt explain` says of each broken tile, in explained.txt beside it: explained.py PROGRAM [--write]
 
 Has the program say it, and compares it with what stands there, or writes it there."""
 
@@ -9,8 +9,7 @@ import sys
 from pathlib import Path
 
 HERE = Path(__file__).resolve().parent
-DOCUMENT = HERE.parents[2] / "docs" / "FORMAT.md"
-HEAD = "## What `mvt explain` says\n\nOf each tile of `examples/tiles/broken`, beside the line of the fault:\n"
+TOLD = HERE / "explained.txt"
 
 
 def shown(program, name):
@@ -18,18 +17,16 @@ def shown(program, name):
     where = path.relative_to(HERE.parents[2])
     line = f"$ mvt explain < {where}" if path.exists() else f"$ gunzip -c {where}.gz | mvt explain"
     tile = path.read_bytes() if path.exists() else gzip.decompress((HERE / f"{name}.mvt.gz").read_bytes())
-    said = subprocess.run([program, "explain"], input=tile, capture_output=True).stdout.decode()
-    return "".join(f"    {each}\n" for each in [line, *said.splitlines()])
+    return f"{line}\n" + subprocess.run([program, "explain"], input=tile, capture_output=True).stdout.decode()
 
 
 def main():
     names = [row.split("\t")[0] for row in (HERE / "tiles.tsv").read_text().splitlines()]
-    section = HEAD + "".join("\n" + shown(sys.argv[1], name) for name in names)
-    front, _, there = DOCUMENT.read_text().partition(HEAD)
+    told = "\n".join(shown(sys.argv[1], name) for name in names)
     if "--write" in sys.argv:
-        DOCUMENT.write_text(front.rstrip("\n") + "\n\n" + section)
+        TOLD.write_text(told)
         return 0
-    return HEAD + there != section
+    return TOLD.read_text() != told
 
 
 if __name__ == "__main__":
