@@ -4,7 +4,8 @@ import subprocess
 import sys
 import tempfile
 
-sys.path.insert(0, str(pathlib.Path(__file__).parent.parent.parent / "examples/viewers"))
+TOP = pathlib.Path(__file__).resolve().parents[2]
+sys.path.insert(0, str(TOP / "examples/viewers"))
 from evidence import tiles
 
 mvt = sys.argv[1]
@@ -49,6 +50,10 @@ assert set(FOUND) <= set(known)
 for name, tile in known.items():
     line = f"lint {FOUND[name]}\n" if name in FOUND else ""
     expect(name, run(stdin=tile), (5 if line else 0, line, ""))
+# README.md shows what is found in this one.
+expect("far-point.mvt", (TOP / "examples/tiles/odd/far-point.mvt").read_bytes(), known["right-16384-of-4096"])
+sample = f"    $ mvt lint < examples/tiles/odd/far-point.mvt\n    lint {FOUND['right-16384-of-4096']}\n"
+expect("README.md's sample", sample in (TOP / "README.md").read_text(), True)
 
 with tempfile.TemporaryDirectory() as room:
     def file(name, tile):
