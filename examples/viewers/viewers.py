@@ -1,6 +1,7 @@
 #!/usr/bin/python3
 """Draws the evidence tiles and the broken tiles by the viewers, and writes the tables of docs/OTHER_PROGRAMS.md:
 viewers.py FOLDER MVT PAGE"""
+import collections
 import json
 import pathlib
 import re
@@ -19,7 +20,7 @@ from feature import field, fields
 from others import ogrinfo, protoc, tile_of
 
 KINDS = ("circle", "fill", "line")  # the last on top
-FAR = re.compile("(left|right)-")
+FAR = re.compile(r"(left|right)-(\d+)-of-(\d+)")
 folder, mvt, page = map(pathlib.Path, sys.argv[1:])
 
 
@@ -84,13 +85,32 @@ def evidence_row(evidence):
     return [f"`{name}`", *cells], ogrinfo(tile)
 
 
+def far_table(rows):
+    """By extents, the positions whose line the viewers draw, and those that Mapbox GL leaves out; the rows that are otherwise."""
+    drawn, left_out, others = collections.defaultdict(list), collections.defaultdict(list), []
+    for row in rows:
+        side, far, extent = FAR.search(row[0]).groups()
+        place = f"{'-' if side == 'left' else ''}{int(far):,}"
+        if (row[1], row[3], row[5]) == ("-", "drawn", "drawn"):
+            drawn[int(extent)].append(place)
+        elif (row[1], row[3], row[5]) == ("FarPoint", "another line", "drawn"):
+            left_out[int(extent)].append(place)
+        else:
+            others.append(row)
+    heads = ["Extent", "Mapbox GL draws the line to", "it leaves out, and `mvt lint` finds"]
+    cells = ([f"{extent:,}", *("; ".join(each[extent]) for each in (drawn, left_out))] for extent in sorted({*drawn, *left_out}))
+    return table(heads, cells), others
+
+
 def evidence_table(rows):
-    """The table, and below it which of the tiles GDAL refuses."""
+    """The table, that of far positions, and which of the tiles GDAL refuses."""
     rows = list(rows)
+    far, others = far_table(row for row, _ in rows if FAR.search(row[0]))
     heads = ["Tile", "`mvt lint`", "Mapbox GL, fill", "Mapbox GL, line", "Mapbox GL, circle", "QGIS"]
     refused = ", ".join(row[0] for row, said in rows if said == "refuses")
     below = f"`ogrinfo` refuses {refused}." if refused else "`ogrinfo` accepts each of these tiles."
-    return table(heads, (row for row, _ in rows)) + f"\n{below}\n"
+    known = table(heads, [*(row for row, _ in rows if not FAR.search(row[0])), *others])
+    return f"{known}\nLines to a far position, all of which QGIS draws whole:\n\n{far}\n{below}\n"
 
 
 def with_extent(tile):
