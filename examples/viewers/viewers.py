@@ -140,7 +140,15 @@ def broken_row(told):
     name = told.split("\t")[0]
     tile = tile_of(name)
     mended = with_extent(tile) if len(tile) < 1 << 20 else None
-    return [f"`{name}`", protoc(tile), ogrinfo(tile), broken_by_mapbox(mended or tile)]
+    return [f"`{name}`", ogrinfo(tile), broken_by_mapbox(mended or tile)], protoc(tile)
+
+
+def broken_table(rows):
+    """The table, and above it which of the tiles protoc refuses, and of which it warns."""
+    rows = list(rows)
+    refused, warned = (", ".join(row[0] for row, said in rows if said == what) for what in ("refuses", "accepts, warns"))
+    above = f"`protoc --decode` refuses {refused or 'none'}. It warns of {warned or 'none'}, and accepts the others."
+    return f"{above}\n\n" + table(["Tile", "`ogrinfo`", "Mapbox GL"], (row for row, _ in rows))
 
 
 def table(heads, rows):
@@ -158,6 +166,5 @@ def between(text, name, rows):
 folder.mkdir(parents=True, exist_ok=True)
 with ThreadPoolExecutor(2) as pool:
     found = evidence_table(pool.map(evidence_row, tiles()))
-    refused = table(["Tile", "`protoc --decode`", "`ogrinfo` shows", "Mapbox GL"],
-                    pool.map(broken_row, (broken / "tiles.tsv").read_text().splitlines()))
+    refused = broken_table(pool.map(broken_row, (broken / "tiles.tsv").read_text().splitlines()))
 page.write_text(between(between(page.read_text(), "evidence", found), "broken", refused))

@@ -38,7 +38,7 @@ def ogrinfo(tile):
 
 
 if __name__ == "__main__":
-    print("| Tile | `protoc --decode` | `ogrinfo` shows |\n|---|---|---|")
+    print("| Tile | `protoc --decode` | `ogrinfo` |\n|---|---|---|")
     for line in (here / "tiles.tsv").read_text().splitlines():
         name = line.split("\t")[0]
         tile = tile_of(name)
