@@ -1,5 +1,5 @@
-/* mvt for C++20: what mvt.h has, with owners that give their memory back, views in the place of pointers, and
- * exceptions that hold the fault. Wants the header mvt.h and the library libmvt, and is nothing but this header.
+/* mvt for C++20: the calls of mvt.h, with owners that free their memory, views instead of pointers, and exceptions that
+ * hold the fault. It is this header alone, and needs mvt.h and the library libmvt.
  *
  *     const mvt::tile tile = mvt::read(bytes);
  *     for (const mvt_layer &layer : tile.layers())
@@ -35,7 +35,7 @@ namespace mvt {
 
 using byte_span = std::span<const std::uint8_t>;
 
-/// The bytes of a string, which may hold any bytes.
+/// The bytes of a string.
 [[nodiscard]] inline byte_span bytes_of(std::string_view text) noexcept {
     return {reinterpret_cast<const std::uint8_t *>(text.data()), text.size()};
 }
@@ -45,14 +45,14 @@ template <class T>
 concept byte_like = std::same_as<T, char> || std::same_as<T, signed char> || std::same_as<T, unsigned char> ||
                     std::same_as<T, std::byte> || std::same_as<T, char8_t>;
 
-/// Bytes in a row. An array of char may be a literal, which ends with a zero that is no byte of it.
+/// Contiguous bytes. A char array may be a literal; the zero at its end doesn't belong to it.
 template <class R>
 concept bytes_in_a_row = std::ranges::contiguous_range<R> && std::ranges::sized_range<R> &&
                          byte_like<std::ranges::range_value_t<R>> &&
                          !(std::is_array_v<R> && std::same_as<std::ranges::range_value_t<R>, char>);
 } // namespace detail
 
-/// The bytes that a call takes, wherever they lie in a row: a string, a vector of char or std::byte, a span.
+/// The bytes that a call takes, from anything contiguous: a string, a vector of char or std::byte, a span.
 class input {
 public:
     constexpr input() noexcept = default;
@@ -69,7 +69,7 @@ private:
     byte_span bytes_;
 };
 
-/// Why a call made nothing, but for want of memory, which is std::bad_alloc.
+/// The base of all errors, except out of memory, which is std::bad_alloc.
 class error : public std::runtime_error {
     using std::runtime_error::runtime_error;
 };
@@ -79,7 +79,7 @@ class too_large : public error {
     using error::error;
 };
 
-/// A name that no layer of version 2 has.
+/// No layer of version 2 has this name.
 class no_layer : public error {
 public:
     explicit no_layer(const std::string &name)
@@ -96,13 +96,13 @@ class bad_name : public error {
     using error::error;
 };
 
-/// The rows are no valid tile. Tells the first thing that is wrong with them, where it is known.
+/// The rows are no valid tile. Says the first thing that is wrong with them, if it is known.
 class no_tile : public error {
 public:
     using error::error;
     explicit no_tile(const mvt_rows_fault &fault) : error(line_of(fault)), fault_(fault) {}
 
-    /// The layer, the feature where one is to blame, and the cause.
+    /// The layer, the feature if the fault is in one, and the cause.
     [[nodiscard]] std::optional<mvt_rows_fault> fault() const noexcept { return fault_; }
 
 private:
@@ -114,10 +114,10 @@ private:
     std::optional<mvt_rows_fault> fault_;
 };
 
-/// The bytes are no tile. Tells the first broken rule.
+/// The bytes are no tile. Says the first broken rule.
 class refused : public error {
 public:
-    /// The bytes are those that were refused, all or the first of them.
+    /// Pass the refused bytes, or the first few of them.
     explicit refused(const mvt_fault &fault, input of = {}, bool are_all = true)
         : error(line_of(fault)), fault_(fault), sentence_(mvt_explain(of.data(), of.size(), &fault)) {
         mvt_place place{};
@@ -131,21 +131,21 @@ public:
 
     [[nodiscard]] std::optional<std::uint32_t> layer() const noexcept { return index(fault_.layer); }
     [[nodiscard]] std::optional<std::uint32_t> feature() const noexcept { return index(fault_.feature); }
-    /// An offset in the tile, or an index in the tags or in the integers of the feature's geometry.
+    /// An offset in the tile, or an index in the feature's tags or in the integers of its geometry.
     [[nodiscard]] std::uint64_t at() const noexcept { return fault_.at; }
     /// The number and the name of the cause.
     [[nodiscard]] std::uint32_t cause() const noexcept { return fault_.cause; }
     [[nodiscard]] std::string_view name() const noexcept { return text_of(fault_.name); }
     /// The fault in plain words.
     [[nodiscard]] std::string_view sentence() const noexcept { return sentence_; }
-    /// The layer's name, which may be no UTF-8, and the feature's id, where the bytes tell them.
+    /// The layer's name, which may not be UTF-8, and the feature's id, if the bytes have them.
     [[nodiscard]] std::optional<std::string_view> layer_name() const noexcept {
         if (layer_name_ == nullptr) return std::nullopt;
         return *layer_name_;
     }
     [[nodiscard]] std::optional<std::uint64_t> feature_id() const noexcept { return feature_id_; }
-    /// Where the bytes begin that the fault is about, and where they end, but of a decoder, which keeps no bytes. Where both
-    /// are one, the fault stands before that byte.
+    /// Where the bytes of the fault begin and end. If both are equal, something is missing before that byte. Not for a
+    /// decoder, which keeps no bytes.
     [[nodiscard]] std::optional<std::uint64_t> start() const noexcept { return start_; }
     [[nodiscard]] std::optional<std::uint64_t> end() const noexcept { return end_; }
 
@@ -173,7 +173,7 @@ private:
     std::optional<std::uint64_t> feature_id_, start_, end_;
 };
 
-/// Throws what a status other than MVT_OK means. The bytes are those that the call took, all or the first of them.
+/// Throws the error of a status other than MVT_OK. Pass the bytes that the call took, or the first few of them.
 inline void require_ok(std::uint32_t status, const mvt_fault &fault, input of = {}, bool are_all = true) {
     switch (status) {
     case MVT_OK: return;
@@ -186,11 +186,11 @@ inline void require_ok(std::uint32_t status, const mvt_fault &fault, input of = 
     }
 }
 
-/// Bytes or a text that the library handed out.
+/// Bytes or a text from the library.
 class bytes {
 public:
     bytes() noexcept = default;
-    /// Takes what a call of mvt.h handed out, to give it back.
+    /// Takes over what a call of mvt.h returned, and frees it.
     [[nodiscard]] static bytes adopt(const mvt_bytes &held) noexcept {
         bytes made;
         made.held_ = held;
@@ -206,10 +206,10 @@ public:
 
     [[nodiscard]] std::size_t size() const noexcept { return held_.len; }
     [[nodiscard]] bool empty() const noexcept { return held_.len == 0; }
-    /// A copy as a string, which lasts for itself.
+    /// A copy as a string.
     [[nodiscard]] std::string str() const { return std::string(view()); }
 
-    // These last as long as the owner, so a temporary one has none.
+    // These are valid as long as the owner lives, so a temporary has none.
     [[nodiscard]] const std::uint8_t *data() const & noexcept { return held_.data; }
     [[nodiscard]] const std::uint8_t *begin() const & noexcept { return held_.data; }
     [[nodiscard]] const std::uint8_t *end() const & noexcept { return held_.data + held_.len; }
@@ -227,14 +227,14 @@ private:
     mvt_bytes held_{};
 };
 
-/// A value: a text, a number or a truth. A signed number is an int or a sint, as `kind` of its row says.
+/// A value: a text, a number or a truth. A signed number is an int or a sint, by the `kind` of its row.
 using value = std::variant<std::string_view, float, double, std::int64_t, std::uint64_t, bool>;
 
-/// A tile as rows. Views of its lists and texts last as long as the tile, so a temporary one has none.
+/// A tile as rows. Views of its lists and texts are valid as long as the tile lives, so a temporary has none.
 class tile {
 public:
     tile() noexcept = default;
-    /// Takes rows that a call of mvt.h handed out, to give them back. Rows made by hand aren't such.
+    /// Takes over rows that a call of mvt.h returned, and frees them. Don't pass rows made by hand.
     [[nodiscard]] static tile adopt(const mvt_tile &rows) noexcept {
         tile made;
         made.rows_ = rows;
@@ -254,7 +254,7 @@ public:
     [[nodiscard]] std::span<const mvt_layer> layers() const & noexcept { return {rows_.layers, rows_.layer_count}; }
     std::span<const mvt_layer> layers() const && = delete;
 
-    /// The layer of version 2 that has this name, or a null pointer.
+    /// The layer of version 2 with this name, or a null pointer.
     [[nodiscard]] const mvt_layer *layer(std::string_view name) const & noexcept {
         const auto all = layers();
         const auto at = std::ranges::find_if(
@@ -322,7 +322,7 @@ private:
     mvt_tile rows_{};
 };
 
-/// A tile as rows, whose lists have at most so many bytes. Throws refused, and bad_alloc where they would have more.
+/// A tile as rows, whose lists have at most `most` bytes; beyond that it throws bad_alloc. Throws refused.
 [[nodiscard]] inline tile read(input of, std::uint64_t most = UINT64_MAX) {
     mvt_tile rows{};
     mvt_fault fault{};
@@ -330,8 +330,8 @@ private:
     return tile::adopt(rows);
 }
 
-/// The first layer of version 2 of this name, as a tile that has it alone. Nothing is then known of the rest. Throws refused
-/// and no_layer.
+/// The first layer of version 2 with this name, as a tile that has no other layer. Reads only as far as this layer; later
+/// bytes may be broken. Throws refused and no_layer.
 [[nodiscard]] inline tile read_layer(input of, std::string_view name) {
     mvt_tile rows{};
     mvt_fault fault{};
@@ -341,10 +341,10 @@ private:
     return tile::adopt(rows);
 }
 
-/// A tile that comes in pieces, cut anywhere. One thread at a time.
+/// Reads a tile that comes in pieces of any length. Only one thread may use it at a time.
 class decoder {
 public:
-    /// Of a tile whose lists of rows have at most so many bytes.
+    /// With a bound on the bytes of the rows.
     explicit decoder(std::uint64_t most = UINT64_MAX) { require_ok(mvt_decoder_new_within(&held_, most), {}); }
     decoder(decoder &&other) noexcept
         : held_(std::exchange(other.held_, {})), head_(other.head_), head_size_(other.head_size_) {}
@@ -357,7 +357,7 @@ public:
     decoder(const decoder &) = delete;
     ~decoder() { mvt_decoder_free(&held_); }
 
-    /// Takes a piece. Throws refused as soon as no further byte can change the fault, and then at each call.
+    /// Takes a piece. Throws refused as soon as no further byte can change the fault, and again at each further call.
     void feed(input piece) {
         mvt_fault fault{};
         const std::size_t more = std::min(piece.size(), head_.size() - head_size_);
@@ -366,7 +366,7 @@ public:
         require_ok(mvt_decoder_feed(&held_, piece.data(), piece.size(), &fault), fault, head(), false);
     }
 
-    /// The tile, after the last piece, which ends the decoder. Throws refused.
+    /// The tile, after the last piece. Ends the decoder. Throws refused.
     [[nodiscard]] tile finish() {
         mvt_tile rows{};
         mvt_fault fault{};
@@ -375,7 +375,7 @@ public:
     }
 
 private:
-    /// The first bytes, which tell whether the tile looks like something else.
+    /// The first bytes, to recognise what isn't a tile.
     input head() const noexcept { return {head_.data(), head_size_}; }
 
     mvt_decoder held_{};
@@ -383,14 +383,14 @@ private:
     std::size_t head_size_ = 0;
 };
 
-/// Throws refused where the bytes are no tile. Makes nothing of them, so it is the fastest way to know.
+/// Throws refused if the bytes are no tile. Makes nothing, so it is the fastest check.
 inline void judge(input of) {
     mvt_fault fault{};
     require_ok(mvt_judge(of.data(), of.size(), &fault), fault, of);
 }
 
 namespace detail {
-/// What a call hands out through its last two parameters.
+/// The result of a call that writes it to its last two parameters.
 template <class Call>
 bytes made(input of, Call call) {
     mvt_bytes out{};
@@ -399,7 +399,7 @@ bytes made(input of, Call call) {
     return bytes::adopt(out);
 }
 
-/// A name that lasts while the range does.
+/// A name that is valid as long as the range.
 template <class T>
 concept lasting_name = std::convertible_to<T, std::string_view> &&
                        (std::is_lvalue_reference_v<T> || std::is_trivially_copyable_v<std::remove_cvref_t<T>>);
@@ -433,7 +433,7 @@ template <std::ranges::input_range Names>
     return extract(of, std::span(names.begin(), names.size()));
 }
 
-/// The canonical bytes of the tile that rows are, wherever these come from. Throws no_tile and too_large.
+/// The canonical bytes of the tile that the rows are, wherever they come from. Throws no_tile and too_large.
 [[nodiscard]] inline bytes write(const mvt_tile &rows) {
     mvt_bytes out{};
     mvt_rows_fault fault{};
@@ -443,21 +443,21 @@ template <std::ranges::input_range Names>
     return bytes::adopt(out);
 }
 
-/// A tile as JSON, in one line without a line end. Throws refused.
+/// A tile as one line of JSON, without a line end. Throws refused.
 [[nodiscard]] inline bytes json(input of) { return detail::made(of, mvt_json); }
 
-/// What `mvt check` says of a tile, line by line. Throws refused.
+/// What `mvt check` prints. Throws refused.
 [[nodiscard]] inline bytes report(input of) { return detail::made(of, mvt_report); }
 
-/// What `mvt lint` says of a tile: a line for each thing that viewers stumble over. Throws refused.
+/// What `mvt lint` prints: a line for each thing that viewers stumble over. Throws refused.
 [[nodiscard]] inline bytes lint(input of) { return detail::made(of, mvt_lint); }
 
 /// A picture of a tile in SVG. Throws refused.
 [[nodiscard]] inline bytes svg(input of) { return detail::made(of, mvt_svg); }
 
 namespace detail {
-/// A value as the builder of mvt.h takes it. A whole number is a uint or, below zero, a sint; mvt_any_int and the like
-/// make one of another kind.
+/// A value for the builder. A whole number is a uint or, if negative, a sint; mvt_any_int and the like make other
+/// kinds.
 template <class T>
 mvt_any any_of(const T &value) noexcept {
     if constexpr (std::same_as<T, mvt_any>) return value;
@@ -489,7 +489,7 @@ concept valued = std::same_as<T, mvt_any> || std::same_as<T, value> || std::inte
 ///     builder.feature(MVT_POINTS, 7).tag("name", "Mill Pond").point(25, 17);
 ///     const mvt::bytes tile = builder.finish();
 ///
-/// A call that isn't due throws error, and so does each further one but finish, which gives the builder back.
+/// A call that the builder doesn't expect throws error, and so does each further call. finish frees the builder.
 class builder {
 public:
     builder() noexcept = default;
@@ -501,15 +501,15 @@ public:
     builder(const builder &) = delete;
     ~builder() { mvt_builder_free(&held_); }
 
-    /// Begins a layer, which ends the one before.
+    /// Begins a layer, and ends the one before.
     builder &layer(std::string_view name, std::uint32_t extent = 4096) {
         return done(mvt_builder_layer(&held_, text(name), extent));
     }
-    /// Adds a layer of another version than 2, of which these are the bytes.
+    /// Adds a layer of another version than 2, given by its bytes.
     builder &foreign(std::uint32_t version, input of) {
         return done(mvt_builder_foreign(&held_, version, {of.data(), of.size()}));
     }
-    /// The index of a key or a value of the layer. One that isn't there yet is added.
+    /// The index of a key or a value of the layer, which is added if it is new.
     [[nodiscard]] std::uint32_t key(std::string_view key) {
         std::uint32_t index = 0;
         done(mvt_builder_key(&held_, text(key), &index));
@@ -522,7 +522,7 @@ public:
         return index;
     }
 
-    /// Begins a feature of the layer, which ends the one before.
+    /// Begins a feature of the layer, and ends the one before.
     builder &feature(mvt_kind kind) { return done(mvt_builder_feature(&held_, kind)); }
     builder &feature(mvt_kind kind, std::uint64_t id) { return feature(kind).id(id); }
     builder &id(std::uint64_t id) { return done(mvt_builder_id(&held_, id)); }
@@ -538,8 +538,8 @@ public:
     /// rings after it are its holes.
     builder &line() { return done(mvt_builder_line(&held_)); }
     builder &ring(bool exterior) { return done(mvt_builder_ring(&held_, exterior)); }
-    /// Add points to the line or ring that was begun last, or to a feature of points. The last point of a ring is joined
-    /// to its first.
+    /// Add points to the line or ring that began last, or to a feature of points. A ring closes from its last point to its
+    /// first.
     builder &point(std::int32_t x, std::int32_t y) { return done(mvt_builder_point(&held_, x, y)); }
     builder &points(std::span<const mvt_point> points) {
         return done(mvt_builder_points(&held_, points.data(), points.size()));
@@ -548,12 +548,12 @@ public:
     builder &integers(std::span<const std::uint32_t> integers) {
         return done(mvt_builder_integers(&held_, integers.data(), integers.size()));
     }
-    /// Takes the feature back that was begun last, as one whose geometry came to nothing.
+    /// Removes the feature that began last, for example if its geometry has become empty.
     builder &drop() { return done(mvt_builder_drop(&held_)); }
 
-    /// The canonical bytes of the tile. The builder may begin anew. Throws no_tile and too_large.
+    /// The canonical bytes of the tile. The builder may then begin a new tile. Throws no_tile and too_large.
     [[nodiscard]] bytes finish() {
-        builder ended = std::move(*this); // given back, whatever the answer
+        builder ended = std::move(*this); // freed, whatever the status
         mvt_tile rows{};
         require_ok(mvt_builder_rows(&ended.held_, &rows), {});
         return write(rows);
