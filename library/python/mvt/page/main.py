@@ -24,18 +24,18 @@ _WAKES = 0.5
 def _parser() -> argparse.ArgumentParser:
     words = argparse.ArgumentParser(
         prog="mvt-page",
-        description="Shows tiles in the browser: a page that this machine alone can see, over the proved library.",
-        epilog="It runs until Ctrl-C. Status: 0 it was ended, 2 the words are no good or the port is taken, 3 something"
+        description="Shows tiles in the browser, in a page that only this machine can see.",
+        epilog="Runs until Ctrl-C. Status: 0 it was ended, 2 the command line is wrong or the port is taken, 3 something"
         " can't be read.",
     )
     words.add_argument(
         "what", nargs="*", metavar="WHAT",
         help="a file with a tile, or a store: a folder {z}/{x}/{y}.mvt or .pbf (.gz too), an .mbtiles or .pmtiles file, a"
-        " .txt file with a name on each line, or a server, by the address of its tiles with {z}, {x} and {y} (or {-y}) in"
-        " it, or of its TileJSON; behind a store perhaps the place Z/X/Y of the tile that is opened first",
+        " .txt file with a name on each line, or a server, by the address of its tiles with {z}, {x} and {y} (or {-y}),"
+        " or of its TileJSON; after a store, Z/X/Y is the place of the tile that opens first",
     )
-    words.add_argument("--port", type=_port, default=0, metavar="N", help="the port; else one that is free")
-    words.add_argument("--no-browser", action="store_true", help="don't open a browser, and only say the address")
+    words.add_argument("--port", type=_port, default=0, metavar="N", help="the port (one that is free)")
+    words.add_argument("--no-browser", action="store_true", help="don't open a browser, and only print the address")
     serverwords.add_to(words)
     return words
 
