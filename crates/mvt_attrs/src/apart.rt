@@ -1,4 +1,4 @@
-//! Entries that stand once each, and where each of them is found.
+//! Entries that are all different, and where each of them is found.
 ghost use Rattle.std.specs.Prelude.{◌≡◌, ◌<◌, ◌+◌, ◌^◌, ◌++◌, ◌∷◌, [], length, Contains, IfOk, IfSome, IsTrue};
 ghost use Rattle.mvt_base.specs.declared.TheConstants.{LIMIT};
 ghost use Rattle.mvt_attrs.specs.FirstUse.{AreDistinct};
@@ -14,10 +14,10 @@ use std::alloc::{AllocError, Global};
 /// The most entries that are each compared with all before them.
 const MOST_COMPARED: usize = 8;
 
-/// The most entries for which slots are made before it is known how many of them differ.
+/// The most entries for which slots are made before it is known how many of them are different.
 pub(crate) const MOST_APART: usize = 1 << 16;
 
-/// Where entries are found that stand once each; `None` where one stands twice, or they are too
+/// Where entries that are all different are found; `None` if one comes twice, or if they are too
 /// many to make slots for all.
 ///
 /// # Errors
@@ -56,7 +56,7 @@ fn are_few_apart<T: Entry>(entries: &[T]) -> bool
     true
 }
 
-/// The same of many, by slots.
+/// The same for many, by slots.
 #[inline(never)]
 fn index_many<T: Entry>(alloc: Global, entries: &[T]) -> Result<Option<EntryIndex<T>>, AllocError>
     requires { length entries.now + 1 < 2 ^ 32 }

@@ -1,4 +1,4 @@
-//! Whether no text stands twice in a list.
+//! Whether no text comes twice in a list.
 ghost use Rattle.std.specs.Prelude.{◌≡◌, ◌≢◌, ◌+◌, ◌^◌, ◌<◌, ℕ, List, length, slice_get, Some, IfOk, IfSome, IsTrue, false};
 ghost use Rattle.std.specs.Borrow.{Bor};
 ghost use Rattle.mvt_attrs.specs.FirstUse.{AreDistinct};
@@ -19,8 +19,8 @@ const MOST_STEPS: usize = 32;
 /// hardly ever take all steps, however many entries there are.
 const SLOTS_PER_ENTRY: usize = 4;
 
-/// Whether all entries are different. It may also say no where many of them have one hash, so that
-/// the time grows with their bytes alone, whatever they are.
+/// Whether all entries are different. May also say no if many of them have one hash, so that the
+/// time is linear in their bytes, whatever they are.
 ///
 /// # Errors
 ///
@@ -68,7 +68,7 @@ fn is_text(one: &[u8], other: &[u8]) -> bool
     one == other
 }
 
-/// The same of many, by their hashes.
+/// The same for many, by their hashes.
 #[inline(never)]
 fn are_many_distinct(alloc: Global, entries: &[&[u8]]) -> Result<bool, AllocError>
     requires { length entries.now < 2 ^ 31 }

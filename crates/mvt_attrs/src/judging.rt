@@ -13,8 +13,8 @@ use std::alloc::Global;
 /// Whether a feature's tags name attributes, in a layer with these keys and this number of values
 /// (4.4).
 ///
-/// The cost grows with the number of tags alone, but for the first feature of two pairs or more,
-/// which has the keys put in groups. Up to one pair needs no memory.
+/// The cost grows only with the number of tags, except that the first feature with two pairs or
+/// more groups the keys. Up to one pair needs no memory.
 ///
 /// # Errors
 ///
@@ -57,7 +57,7 @@ pub fn judge_tags(
     )
 }
 
-/// The same where there is one pair at most, which repeats no key.
+/// The same if there is one pair at most, which repeats no key.
 fn judge_pair(texts: &[Text], values: usize, tags: &[u32]) -> Result<(), TagError>
     requires { length tags.now ≤ 2 }
     ensures ok { OnOk result ((held : List Value) → length held ≡ values

@@ -1,4 +1,4 @@
-//! The keys of a layer, among which a feature's repeated key is found without a walk.
+//! The keys of a layer, in which a feature's repeated key is found without a search.
 ghost use Rattle.std.specs.Prelude.{◌≡◌, ◌+◌, ◌<◌, ◌==◌, ℕ, List, length, not, slice_index, slice_set, bytes_eq, false, IfOk, OnOk, OnErr, Some};
 ghost use Rattle.std.specs.Bool.{OnTrue};
 ghost use Rattle.std.specs.Map.{update};
@@ -21,9 +21,9 @@ use std::marker::Model;
 /// }
 /// ```
 ///
-/// The first feature of two pairs or more has the keys put in groups, in time that grows as sorting
-/// them; from then on it is found out in constant time whether a feature has named a key's text
-/// before. Contracts see the texts.
+/// The first feature with two pairs or more groups the keys, in the time of sorting them. From then
+/// on it takes constant time to find whether a feature has named a key's text before. Contracts see
+/// the texts.
 #[derive(Drop)]
 pub struct LayerKeys<'k> {
     pub(crate) texts: &'k [Text],
@@ -32,7 +32,7 @@ pub struct LayerKeys<'k> {
     pub(crate) first_indices: Vec<usize>,
     /// For each first index the last feature that named its text.
     pub(crate) named_by: Vec<u32>,
-    /// The number of the last feature, from 1; where numbers are over, they begin again.
+    /// The number of the last feature, from 1; after the last number they begin again.
     pub(crate) feature: u32,
 }
 
@@ -64,7 +64,7 @@ impl<'k> LayerKeys<'k> {
     }
 }
 
-/// Puts the keys in groups, where they aren't yet.
+/// Puts the keys in groups, if they aren't yet.
 pub(crate) fn make_ready(
     alloc: Global,
     texts: &[Text],
@@ -129,7 +129,7 @@ fn place_after(texts: &[Text], first_indices: &[usize]) -> usize
     index
 }
 
-/// The same of texts that stand once each.
+/// The same for texts that stand once each.
 fn group_apart(alloc: Global, texts: &[Text]) -> Result<Vec<usize>, AllocError>
     requires { AreDistinct texts.now }
     ensures { IfOk result (λ first_indices. IsGrouped texts.now first_indices.items) }
@@ -154,7 +154,7 @@ fn group_many(alloc: Global, texts: &[Text]) -> Result<Vec<usize>, AllocError>
     Ok(first_indices)
 }
 
-/// The place of a text, which is this index where it is new.
+/// The place of a text, which is this index if it is new.
 fn place_of<'k>(
     known: &mut BTreeMap<&'k str, usize>,
     text: &'k str,

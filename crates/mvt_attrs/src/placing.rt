@@ -13,7 +13,7 @@ use mvt_base::LIMIT;
 use std::alloc::{AllocError, Global};
 
 /// The tags of a feature with these attributes (4.4): for each the place of its key and that of its
-/// value, which are added to the pools where they are new.
+/// value, which are added to the pools if they are new.
 ///
 /// # Errors
 ///
@@ -52,12 +52,12 @@ pub fn tags_of(
 
 /// Appends the tags that `tags_of` gives to a list, which can be kept from feature to feature.
 ///
-/// An entry is looked for first where `last` has it, such as the tags of the feature before. Any
-/// numbers will do: the entry there is compared.
+/// An entry is searched first at its place in `last`, for example the tags of the feature before.
+/// Any numbers will do: the entry there is compared.
 ///
 /// # Errors
 ///
-/// As `tags_of`, and the list is then as it was or a longer one.
+/// As `tags_of`, and the list is then unchanged or longer.
 pub(crate) fn append_tags(
     attributes: &[Attribute],
     keys: &mut KeyPool,

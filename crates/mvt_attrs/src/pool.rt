@@ -19,9 +19,9 @@ const FIRST_ROOM: usize = 16;
 
 /// Entries, each once, in order of first use.
 ///
-/// Few are searched one by one, more are hashed, and of many those whose two slots are taken are
-/// kept in order: so n entries are placed in n log n steps at most, whatever their texts are. After
-/// an error a pool is as it was.
+/// Few entries are searched one by one, more are hashed, and of many those that find both slots
+/// taken are kept in order: so n entries are placed in at most n log n steps, whatever their texts
+/// are. After an error a pool is unchanged.
 #[derive(Drop)]
 pub struct Pool<T: Entry> {
     entries: Vec<T>,
@@ -53,7 +53,7 @@ impl<T: Entry> Pool<T> {
         }
     }
 
-    /// An empty pool with slots for so many entries, where they are too many to be searched one by
+    /// An empty pool with slots for this many entries, if they are too many to be searched one by
     /// one, and not too many to make slots for all.
     pub(crate) fn with_slots(alloc: Global, entries: usize) -> Result<Self, AllocError>
         ensures { IfOk result (λ pool. pool ≡ []) }
@@ -65,7 +65,7 @@ impl<T: Entry> Pool<T> {
         Ok(Pool::of_apart(alloc, Vec::new(alloc), EntryIndex::TwoChoices(slots)))
     }
 
-    /// The pool of entries that stand once each, and are found so.
+    /// The pool of entries that are all different, with their index.
     pub(crate) fn of_apart(alloc: Global, entries: Vec<T>, entry_index: EntryIndex<T>) -> Self
         requires few { length entries.items ≤ LIMIT }
         requires apart { AreDistinct entries.items }
@@ -107,12 +107,12 @@ impl<T: Entry> Pool<T> {
         self.entries.get(index as usize)
     }
 
-    /// The place of an entry, which is copied and added last where it is new. An entry that is
-    /// there needs no memory.
+    /// The place of an entry, which is copied and added last if it is new. An entry that is there
+    /// needs no memory.
     ///
     /// # Errors
     ///
-    /// When memory runs out, or the pool is full and the entry is new; the pool is then as it was.
+    /// When memory runs out, or the pool is full and the entry is new; the pool is then unchanged.
     #[inline(never)]
     pub fn place(&mut self, entry: &T) -> Result<u32, PoolError>
         ensures { IsPlaced self.old self.new entry.now result }
@@ -129,7 +129,7 @@ impl<T: Entry> Pool<T> {
         Ok(index as u32)
     }
 
-    /// `place`, where the entry may stand at this place: that is tried first.
+    /// As `place`, but the place that is guessed is tried first.
     #[inline(always)]
     pub(crate) fn place_near(&mut self, entry: &T, guess: Option<&u32>) -> Result<u32, PoolError>
         ensures { IsPlaced self.old self.new entry.now result }

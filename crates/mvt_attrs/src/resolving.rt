@@ -79,12 +79,12 @@ impl Error for TagError {}
 
 /// The attributes that a feature's tags name, in order (4.4).
 ///
-/// For many features of one layer there is `resolve_in`, which looks at the keys once.
+/// For many features of one layer use `resolve_in`, which groups the keys once.
 ///
 /// # Errors
 ///
-/// The first broken rule, with its index into the tags; or memory runs out, which may come before a
-/// fault is met.
+/// The first broken rule, with its index into the tags; or memory runs out, perhaps before a fault
+/// is found.
 pub fn resolve(
     alloc: Global,
     keys: &[Text],
@@ -99,7 +99,7 @@ pub fn resolve(
     resolve_in(alloc, &mut LayerKeys::new(alloc, keys), values, tags)
 }
 
-/// The attributes that tags name, among keys that are looked at once a layer.
+/// The attributes that tags name, with keys that are grouped once a layer.
 ///
 /// Its cost then grows with the number of tags alone. All tags are judged before anything is built.
 ///

@@ -42,7 +42,7 @@ pub(crate) fn find_two_choices<T: Entry>(
     }
 }
 
-/// The same of an entry whose first slot is another's: its second is by a hash that costs more.
+/// The same for an entry whose first slot is another's: its second is by a hash that costs more.
 #[inline(never)]
 fn find_second<T: Entry>(two_choices: &TwoChoices<T>, entries: &[T], entry: &T) -> Lookup
     requires known { IsTwoChoices T.cmp T.hash_input two_choices.now entries.now }
@@ -162,7 +162,7 @@ pub(crate) fn record_two_choices<T: Entry>(
     Ok(())
 }
 
-/// The same of an entry whose slots are both taken.
+/// The same for an entry whose slots are both taken.
 #[inline(never)]
 fn record_in_order<T: Entry>(
     alloc: Global,

@@ -26,9 +26,9 @@ const FIRST_ROOM: usize = 16;
 
 /// The entries of a layer, and which of them its features use.
 ///
-/// Entries are compared when they are added, each once. From then on an entry is known by its
-/// place: a use costs two look-ups, however long the texts are. Where none is added, all are used
-/// that attributes bring.
+/// Each entry is compared once, when it is added. From then on it is known by its place: a use
+/// costs two look-ups, however long the texts are. If none is added, the entries are those that
+/// attributes bring.
 #[derive(Drop)]
 pub struct UsedEntries<T: Entry> {
     /// The entries, each once.
@@ -41,7 +41,7 @@ pub struct UsedEntries<T: Entry> {
 }
 
 impl<T: Entry> UsedEntries<T> {
-    /// No entries, without memory.
+    /// No entries yet. Takes no memory.
     pub fn new(alloc: Global) -> Self
         ensures uses { AreUsesOf result [] }
         ensures used { used_of result ≡ [] }
@@ -54,8 +54,8 @@ impl<T: Entry> UsedEntries<T> {
         }
     }
 
-    /// The uses of entries that stand once each, of which the first so many are used. An entry that
-    /// is added to them is compared with all.
+    /// Entries that are all different, of which the first `used` are used. An entry that is added
+    /// is compared with all of them.
     ///
     /// # Errors
     ///
@@ -151,7 +151,7 @@ impl<T: Entry> UsedEntries<T> {
         }
     }
 
-    /// The same of entries that need no copies.
+    /// The same for entries that need no copies.
     ///
     /// # Errors
     ///
@@ -355,7 +355,7 @@ impl LayerEntries {
     ///
     /// # Errors
     ///
-    /// When memory runs out, or a tag names nothing; the list is then as it was or a longer one.
+    /// When memory runs out, or a tag names nothing; the list is then unchanged or longer.
     pub fn append_used(&mut self, tags: &[u32], out: &mut Vec<u32>) -> Result<(), AllocError>
         ensures uses { (keys : List (List ℕ)) (values : List AValue)
             (attributes : List AnAttribute) → HasUses self.old keys values
@@ -385,12 +385,12 @@ impl LayerEntries {
     /// Appends the tags that these attributes have among the keys and the values that are used,
     /// where new ones go last (4.4). Neither keys nor values were added before.
     ///
-    /// An entry is looked for first where `last` has it, such as the tags of the feature before.
-    /// Any numbers will do: the entry there is compared.
+    /// An entry is searched first at its place in `last`, for example the tags of the feature
+    /// before. Any numbers will do: the entry there is compared.
     ///
     /// # Errors
     ///
-    /// As [`tags_of`](crate::tags_of), and the list is then as it was or a longer one.
+    /// As [`tags_of`](crate::tags_of), and the list is then unchanged or longer.
     pub fn append_attributes(
         &mut self,
         attributes: &[Attribute],

@@ -5,7 +5,7 @@ use std::marker::Model;
 
 /// A `Vec` that contracts see as the list of its items.
 ///
-/// It is made of a `Vec`, and gives it back, without memory.
+/// It is made from a `Vec`, and gives it back, without taking memory.
 #[derive(Debug, Drop)]
 pub struct Items<T> {
     vec: Vec<T>,

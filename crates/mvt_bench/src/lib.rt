@@ -28,7 +28,7 @@ pub extern "C" fn mvt_walk_fields(bytes: &[u8]) -> u64 {
 }
 
 /// Reads packed numbers into a list, and adds up the first and the last. 0 for broken numbers, and
-/// for want of memory.
+/// for lack of memory.
 #[unsafe(no_mangle)]
 pub extern "C" fn mvt_read_packed(alloc: Global, bytes: &[u8]) -> u64 {
     let mut numbers = Vec::new(alloc);
@@ -40,7 +40,7 @@ pub extern "C" fn mvt_read_packed(alloc: Global, bytes: &[u8]) -> u64 {
     u64::from(first) + u64::from(last) + numbers.len() as u64
 }
 
-/// Reads a geometry, and counts its points and lists. 0 for integers that draw none, and for want
+/// Reads a geometry, and counts its points and lists. 0 for integers that draw none, and for lack
 /// of memory. Kinds are numbered as in a feature.
 #[unsafe(no_mangle)]
 pub extern "C" fn mvt_read_geometry(alloc: Global, kind: u32, integers: &[u32]) -> u64 {

@@ -1,4 +1,4 @@
-//! Whole runs over a tile's bytes. Each answers a count, or 0 for a fault and for want of memory. A
+//! Whole runs over a tile's bytes. Each answers a count, or 0 for a fault and for lack of memory. A
 //! tile that is kept isn't dropped, so that the time of a run is that of the call alone.
 use mvt_base::LIMIT;
 use mvt_io::{Host, MemorySink};
@@ -36,7 +36,7 @@ pub extern "C" fn mvt_decode(alloc: Global, bytes: &[u8], keeps: bool) -> u64 {
     settle(decode(alloc, bytes), keeps)
 }
 
-/// Whether a tile has no fault, without building it; also `false` for want of memory.
+/// Whether a tile has no fault, without building it; also `false` for lack of memory.
 #[unsafe(no_mangle)]
 pub extern "C" fn mvt_judge(alloc: Global, bytes: &[u8]) -> bool {
     judge(alloc, bytes).is_ok()

@@ -1,5 +1,5 @@
 //! Texts of a tile that is read from its bytes, made so many times over. Each answers the length of
-//! the last one, 1 where none is made, and 0 for a fault and for want of memory. The tile and the
+//! the last one, 1 where none is made, and 0 for a fault and for lack of memory. The tile and the
 //! tree of its JSON aren't dropped.
 use mvt_tile::decode;
 use mvt_view::{json_of, json_text, report_text};

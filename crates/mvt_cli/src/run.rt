@@ -19,12 +19,10 @@ use mvt_tasks::{Failure, Folder, print, run_task, tell_files};
 use std::alloc::Global;
 
 /// Runs the program on the words of its command line, the first of which is its name, and answers
-/// its status: 0 where all went well, 1 where the tile is refused, 2 where the words are, 3 where a
-/// read or a write failed, 4 for want of memory, 5 where something was found of a tile that is
-/// linted. Faults of `errors` are ignored.
+/// its status: 0 if all went well, 1 if the tile is refused, 2 if the words are, 3 if a read or a
+/// write failed, 4 for lack of memory, 5 if `lint` found something. Faults of `errors` are ignored.
 ///
-/// Where the words name files, these are checked, explained or linted, and the reader isn't
-/// touched.
+/// If the words name files, these are checked, explained or linted, and the reader isn't used.
 pub fn run<F: Folder, R: Source, W: Sink, E: Sink>(
     alloc: Global,
     words: &[String],

@@ -12,7 +12,7 @@ use std::alloc::{AllocError, Global};
 use std::rt::Env;
 use std::{env, io};
 
-/// What a line asks for, and the files that it names, which are then checked in place of the input.
+/// What a line asks for, and the files that it names, which are then checked instead of the input.
 #[derive(Debug, Drop)]
 pub struct Asked {
     pub task: Task,

@@ -37,7 +37,7 @@ fn expect_same(rt: &(impl Abort + AllocGlobal), kind: Kind, bytes: &[u8]) {
     drop(listed);
 }
 
-/// The same of each front of the bytes, and of the bytes with each byte made another.
+/// The same for each front of the bytes, and of the bytes with each byte made another.
 fn expect_same_around(rt: &(impl Abort + AllocGlobal), kind: Kind, bytes: &[u8]) {
     for len in 0..bytes.len() {
         expect_same(rt, kind, &bytes[..len]);

@@ -205,7 +205,7 @@ fn is_put_refused(rt: &impl Abort, is_refused: bool, out: Vec<u8>, bytes: &[u8])
     is_refused
 }
 
-/// Each call with one growth refused: the vector is then as it was, and the next call succeeds.
+/// Each call with one growth refused: the vector is then unchanged, and the next call succeeds.
 #[test]
 fn refused_put(rt: HostRuntime) {
     let mut refusals = 0u8;
@@ -317,7 +317,7 @@ fn refused_read_packed(rt: HostRuntime) {
     expect!(rt; refusals < 2);
 }
 
-/// A fault, or want of memory where the list for the numbers was refused.
+/// A fault, or out of memory if the list for the numbers was refused.
 #[test]
 fn refused_read_packed_faults(rt: HostRuntime) {
     let rows: [(&[u8], PackedError); 2] = [

@@ -1,5 +1,5 @@
-//! A geometry drawn part by part from positions as they lie, each judged on the way (sections 4.3.1
-//! to 4.3.4).
+//! A geometry drawn part by part from positions in place, each judged on the way (sections 4.3.1 to
+//! 4.3.4).
 ghost use Rattle.std.specs.Prelude.{◌≡◌, ◌<◌, ◌-ℤ◌, ◌++◌, [], ◌∷◌, map, IfOk, OnOk, OnErr, IsErrOf, IsTrue, ◌↔◌};
 ghost use Rattle.mvt_base.specs.Related.{Extends};
 ghost use Rattle.mvt_geometry.specs.declared.shape.Geometry.TheVariants.{Unknown, Points};
@@ -55,7 +55,7 @@ pub enum RingRole {
 ///
 /// # Errors
 ///
-/// When memory runs out; the list is then as it was or a longer one.
+/// When memory runs out; the list is then unchanged or longer.
 pub fn append_integers<N: NumberList>(list: &mut N, integers: &[u32]) -> Result<(), AllocError>
     ensures valid { IsValid (Unknown integers.now) }
     ensures drawn { OnOk result
@@ -69,7 +69,7 @@ pub fn append_integers<N: NumberList>(list: &mut N, integers: &[u32]) -> Result<
 ///
 /// # Errors
 ///
-/// Points that are no valid geometry; want of memory. The list may then have some of the integers.
+/// Points that are no valid geometry; out of memory. The list may then have some of the integers.
 pub fn append_points<P: Position, N: NumberList>(
     list: &mut N,
     points: &[P],
@@ -93,7 +93,7 @@ pub fn append_points<P: Position, N: NumberList>(
 ///
 /// # Errors
 ///
-/// A line that can't be drawn from there; want of memory. The list may then have some of the
+/// A line that can't be drawn from there; out of memory. The list may then have some of the
 /// integers.
 pub fn append_line<P: Position, N: NumberList>(
     list: &mut N,
@@ -114,7 +114,7 @@ pub fn append_line<P: Position, N: NumberList>(
 ///
 /// # Errors
 ///
-/// A ring that can't be drawn from there, or whose area its role doesn't allow; want of memory. The
+/// A ring that can't be drawn from there, or whose area its role doesn't allow; out of memory. The
 /// list may then have some of the integers.
 pub fn append_ring<P: Position, N: NumberList>(
     list: &mut N,

@@ -1,5 +1,5 @@
-//! A geometry told straight from the bytes of a packed field, judged on the way (Mapbox Vector Tile
-//! Specification 2.1, 4.3.1 to 4.3.4).
+//! A geometry passed to a visitor straight from the bytes of a packed field, judged on the way
+//! (Mapbox Vector Tile Specification 2.1, 4.3.1 to 4.3.4).
 ghost use Rattle.std.specs.Bool.{OnFalse};
 ghost use Rattle.std.specs.Prelude.{◌+◌, ◌*◌, ◌<◌, ◌≤◌, ◌^◌, ◌≤ℤ◌, pos, List, [], ◌∷◌, length, IfOk, IfSome, IsTrue, OnOk};
 ghost use Rattle.mvt_geometry.specs.declared.shape.Point.{Point};
@@ -16,12 +16,12 @@ use crate::visiting::{GeometryVisitor, Ring, begins_polygon, is_same};
 use mvt_wire::{packed_front, unzigzag32};
 use std::alloc::AllocError;
 
-/// Tells a visitor the geometry of this type that the integers of a packed field draw, judged as
-/// they are told: no list of them is made.
+/// Passes the geometry of this type that the integers of a packed field draw to a visitor, and
+/// judges the integers on the way, without a list of them.
 ///
-/// Answers whether they draw one. Where they don't, the visitor may have been told some of the
-/// parts, and [`draw_geometry`](crate::draw_geometry) says what is wrong. A geometry of unknown
-/// type isn't told, and the answer is no.
+/// Answers whether they draw one. If not, the visitor may have received some of the parts, and
+/// [`draw_geometry`](crate::draw_geometry) says what is wrong. A geometry of unknown type isn't
+/// passed on, and the answer is no.
 ///
 /// # Errors
 ///

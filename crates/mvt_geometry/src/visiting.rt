@@ -1,4 +1,4 @@
-//! A geometry told point by point, without lists.
+//! A geometry passed to a visitor point by point, without lists.
 ghost use Rattle.std.specs.Prelude.{◌≡◌, ◌≢◌, pos, ◌||◌, ◌<◌, ◌≤◌, ◌*◌, ◌^◌, ℕ, true, List, [], ◌∷◌, ◌++◌, length, map, Some, IfOk, IfErr, OnOk};
 ghost use Rattle.mvt_geometry.specs.declared.shape.Point.{Point};
 ghost use Rattle.mvt_geometry.specs.declared.shape.Geometry.{Geometry};
@@ -24,8 +24,9 @@ use crate::shape::{Kind, Point};
 use mvt_wire::unzigzag32;
 use std::alloc::AllocError;
 
-/// What is told a geometry: each point of a part, and then the part's end. A part is a line, a
-/// ring, or all points of a feature of points (Mapbox Vector Tile Specification 2.1, 4.3.4).
+/// An object that receives a geometry as it is read: each point of a part, and then the part's end.
+/// A part is a line, a ring, or all points of a feature of points (Mapbox Vector Tile Specification
+/// 2.1, 4.3.4).
 pub trait GeometryVisitor: Drop {
     // Since it was in the first state it was told these parts, and these points of one to come.
     ghost has_parts: { Self → List Part → List Point → Self → Type 0 };
@@ -57,7 +58,7 @@ pub trait GeometryVisitor: Drop {
     ghost begins: { (start : Self) → has_parts start [] [] start };
 }
 
-/// A visitor that keeps nothing of what it is told.
+/// A visitor that keeps nothing.
 #[derive(Drop)]
 pub struct Ignore;
 
@@ -94,9 +95,9 @@ pub struct Ring {
     pub is_closed: bool,
 }
 
-/// Tells a visitor the geometry of this type that the integers draw.
+/// Passes the geometry of this type that the integers draw to a visitor.
 ///
-/// All integers are judged before anything is told.
+/// All integers are judged first.
 ///
 /// # Errors
 ///
@@ -118,7 +119,7 @@ pub fn draw_geometry<V: GeometryVisitor>(
     Ok(draw(visitor, kind, integers)?)
 }
 
-/// The same of integers that draw a geometry.
+/// The same for integers that draw a geometry.
 fn draw<V: GeometryVisitor>(visitor: &mut V, kind: Kind, integers: &[u32]) -> Result<(), AllocError>
     requires { (g : Geometry) × Draws kind integers.now g }
     ensures { (g : Geometry) → Draws kind integers.now g

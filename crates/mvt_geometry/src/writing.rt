@@ -32,7 +32,7 @@ pub fn put_geometry(alloc: Global, geometry: &Geometry) -> Result<Vec<u32>, Allo
 ///
 /// # Errors
 ///
-/// When memory runs out; the list is then as it was or a longer one.
+/// When memory runs out; the list is then unchanged or longer.
 pub fn append_geometry<N: NumberList>(
     geometry: &Geometry,
     integers: &mut N,

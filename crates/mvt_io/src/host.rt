@@ -7,8 +7,8 @@ use super::{Sink, Source};
 use std::io::{ErrorKind, Read, Write};
 use std::marker::Model;
 
-/// A reader or a writer of std, with the counts that a `Source` or a `Sink` keeps. It tells the
-/// bytes that the inner one tells.
+/// A reader or a writer of std, with the counts that a `Source` or a `Sink` keeps. Its bytes are
+/// those of the inner one.
 ///
 /// ```
 /// let mut reader = Host::new(rt.stdin());

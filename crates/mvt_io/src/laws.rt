@@ -4,7 +4,7 @@ ghost use Rattle.std.specs.declared.io.ErrorKind.{ErrorKind as AnErrorKind};
 ghost use Rattle.mvt_io.specs.States.{Outflow};
 ghost use Rattle.mvt_io.specs.Transfers.{Wrote, WroteFront};
 
-/// Pieces that were written one after the other are written as a whole, and a front of a later one
+/// Pieces that were written one after another are written as a whole, and a front of a later one
 /// ends a front of the whole.
 pub fn writes_add_up()
     ensures nothing { (s : Outflow) → Wrote s s [] }

@@ -12,7 +12,7 @@ use std::alloc::{AllocError, Global};
 use std::io::ErrorKind;
 use std::marker::Model;
 
-/// A writer into memory, which can take bytes in small steps, have little room, and fail from some
+/// A writer into memory that can take bytes in small steps, have little room, and fail from a given
 /// write on.
 ///
 /// ```

@@ -11,7 +11,7 @@ use super::source::count_empty;
 use std::io::ErrorKind;
 use std::marker::Model;
 
-/// A reader over bytes, which can give them in small steps and fail from some read on.
+/// A reader over bytes that can give them in small steps, and fail from a given read on.
 ///
 /// ```
 /// let mut reader = MemorySource::new(bytes, 1, 5); // one byte a read; the sixth read fails

@@ -5,7 +5,7 @@ use std::error::Error;
 use std::fmt;
 use std::io::ErrorKind;
 
-/// Want of memory, or the kind of the read that failed.
+/// Out of memory, or the kind of the read that failed.
 #[derive(Clone, Copy, Debug, PartialEq, Eq)]
 pub enum ReadError {
     Memory,

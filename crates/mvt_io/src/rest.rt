@@ -8,8 +8,8 @@ use super::{ReadError, Source};
 /// The most bytes that one read asks for.
 const LARGE_PIECE: usize = 65_536;
 
-/// Appends the bytes that the reader has left, but at most so many. It is a function of its own,
-/// since its large piece costs time at its entry.
+/// Appends the bytes that the reader has left, up to a bound. It is a function of its own, since
+/// its large piece costs time at its entry.
 #[inline(never)]
 pub fn read_rest<R: Source>(
     reader: &mut R,

@@ -12,7 +12,7 @@ use std::io::ErrorKind;
 /// more.
 const PIECE: usize = 16_384;
 
-/// All bytes that the reader has left, but at most so many.
+/// All bytes that the reader has left, up to a bound.
 ///
 /// # Errors
 ///
@@ -50,7 +50,7 @@ pub fn read_up_to<R: Source>(
     Ok(bytes)
 }
 
-/// Has the writer take all the bytes, in as many writes as it needs. It doesn't flush.
+/// Writes all the bytes, in as many writes as it takes. Doesn't flush.
 ///
 /// # Errors
 ///

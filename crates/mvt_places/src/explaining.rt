@@ -18,9 +18,8 @@ use mvt_wire::read_varint;
 use std::alloc::{AllocError, Global};
 use std::fmt::Write;
 
-/// What is said of a fault of an input in a few lines, each with a line feed: the layer and the
-/// feature, the bytes and what stands there, the broken rule in plain words, and the bytes round
-/// the place.
+/// A fault explained in a few lines, each with a line feed: the layer and the feature, the place
+/// and what stands there, the broken rule in plain words, and the bytes around the place.
 pub fn explanation_text(alloc: Global, input: &[u8], fault: &Fault) -> Result<String, ViewError>
     ensures { IfOk result (λ text. string_bytes text ≡ explanation LIMIT input.now fault.now) }
 {
@@ -88,7 +87,7 @@ fn push_name(alloc: Global, text: &mut String, name: Option<&[u8]>) -> Result<()
     push_quoted(text, &String::from_utf8_lossy(alloc, name)?)
 }
 
-/// Appends a number behind a word, where there is one.
+/// Appends a number behind a word, if there is one.
 fn push_told(text: &mut String, word: &str, number: Option<u64>) -> Result<(), AllocError>
     ensures { OnOk result (string_bytes text.new
         ≡ string_bytes text.old ++ told word.now number) }

@@ -1,4 +1,4 @@
-//! Where a fault stands in the bytes of a tile, and what is said of it in plain words.
+//! Where a fault stands in the bytes of a tile, and what it means in plain words.
 #![tactic(auto)]
 
 mod explaining;

@@ -28,10 +28,11 @@ pub(crate) struct Holders<'a> {
     pub feature: Option<Message<'a>>,
 }
 
-/// The place of a fault in the bytes of a tile, and the name and the id of what it stands in.
+/// The place of a fault in the bytes of a tile, with the name of its layer and the id of its
+/// feature.
 ///
-/// A layer or a feature that the bytes don't have has no name and no id, and the place is then
-/// empty and at their end.
+/// If the bytes have no such layer or feature, there is no name or no id, and the place is empty,
+/// at the end of the bytes.
 pub fn locate<'a>(bytes: &'a [u8], fault: &Fault) -> Place<'a>
     ensures name { option_copied result.layer_name ≡ layer_name_at LIMIT bytes.now fault.now }
     ensures id { result.feature_id ≡ feature_id_at LIMIT bytes.now fault.now }
@@ -191,8 +192,8 @@ impl<'a> Holders<'a> {
     }
 }
 
-/// Where a number of a message's fields is spelled, or the place behind them where there is none;
-/// no further than this end.
+/// Where a number of a message's fields is spelled, or the place behind them if there is none; no
+/// further than this end.
 fn number_span(message: &Message<'_>, number: u32, pick: Pick, end: u64) -> Span
     requires { Ends end (message_of message.now) }
     ensures is { result ≡ spec.number_span number pick (message_of message.now) }

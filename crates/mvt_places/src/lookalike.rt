@@ -3,7 +3,7 @@ ghost use Rattle.std.specs.Prelude.{◌≡◌};
 ghost use Rattle.mvt_places.specs.Lookalikes as spec;
 ghost use Rattle.mvt_places.specs.Lookalikes.{lookalike_of};
 
-/// What an input looks like that is no tile.
+/// What an input looks like that isn't a tile.
 #[derive(Clone, Copy, Debug, PartialEq, Eq)]
 pub enum Lookalike {
     Gzip,
@@ -17,8 +17,7 @@ pub enum Lookalike {
     Html,
 }
 
-/// What the first bytes of an input look like, where they can't be mistaken for a tile's, or
-/// seldom.
+/// What the first bytes of an input look like, if tiles never or rarely begin so.
 #[tactic(auto, unfolding(crate::specs::Lookalikes::lookalike_of))]
 pub fn looks_like(input: &[u8]) -> Option<Lookalike>
     ensures { result ≡ lookalike_of input.now }

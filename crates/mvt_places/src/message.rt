@@ -43,8 +43,8 @@ impl<'a> Message<'a> {
         }
     }
 
-    /// The bytes of the field that begins at a place of the payload; all bytes from there where
-    /// none begins.
+    /// The bytes of the field that begins at a place of the payload; all bytes from there if none
+    /// begins.
     pub fn field_span(&self, at: usize) -> Span
         requires fits { self.now.body + length self.now.payload.now < 2 ^ 64 }
         requires within { at ≤ length self.now.payload.now }
@@ -102,7 +102,7 @@ fn has_form(form: Form, payload: &Payload<'_>) -> bool
     }
 }
 
-/// Where the field that begins at a place of a payload ends; the payload's end where none begins
+/// Where the field that begins at a place of a payload ends; the payload's end if none begins
 /// there.
 pub(crate) fn end_in(payload: &[u8], at: usize) -> usize
     requires { at ≤ length payload.now }

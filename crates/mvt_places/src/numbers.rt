@@ -49,8 +49,8 @@ fn see_field(before: Seen, message: &Message<'_>, field: &Field<'_>) -> Seen
     }
 }
 
-/// What is seen with the spellings of numbers one after the other, at most so many; the first
-/// begins at this place.
+/// What is seen with the spellings of numbers one after another, at most so many; the first begins
+/// at this place.
 fn see_numbers(before: Seen, most: usize, at: u64, bytes: &[u8]) -> Seen
     requires { at + length bytes.now < 2 ^ 64 }
     ensures seen { result ≡ fold with_span before (spellings most at bytes.now) }

@@ -1,12 +1,12 @@
-//! What is said of a fault in plain words.
+//! Faults in plain words.
 ghost use Rattle.std.specs.Prelude.{◌≡◌, [], ◌∷◌, ◌++◌};
 ghost use Rattle.mvt_places.specs.Sentences.{cause_sentence, lookalike_sentence, sentence_for};
 
 use crate::lookalike::{Lookalike, looks_like};
 use mvt_tile::Cause;
 
-/// What is said of a fault with this cause of an input: what the input looks like, where that is
-/// something else than a tile, or else which rule is broken. One sentence or two.
+/// A fault with this cause in a sentence or two: what the input looks like if that isn't a tile, or
+/// else which rule is broken.
 pub fn sentence(input: &[u8], cause: Cause) -> &'static str
     ensures { result.now ≡ sentence_for input.now cause }
 {
@@ -16,7 +16,7 @@ pub fn sentence(input: &[u8], cause: Cause) -> &'static str
     }
 }
 
-/// The same with a zero at the end, as C has texts.
+/// The same with a zero at the end, for C.
 pub fn sentence_with_zero(input: &[u8], cause: Cause) -> &'static str
     ensures { result.now ≡ sentence_for input.now cause ++ 0 ∷ [] }
 {

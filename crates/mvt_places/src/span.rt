@@ -19,7 +19,7 @@ impl Span {
     }
 }
 
-/// What was seen of spans that come one after the other.
+/// What was seen of spans that come one after another.
 #[derive(Clone, Copy, Debug)]
 pub(crate) struct Seen {
     /// How many spans come before the wanted one, until it is seen.

@@ -23,7 +23,7 @@ use std::alloc::Global;
 ///
 /// # Errors
 ///
-/// A read that failed; want of memory.
+/// A read that failed; out of memory.
 pub fn answer<R: Source>(alloc: Global, task: Task, reader: &mut R) -> Result<Reply, Failure>
     ensures reply { IfOk result (IsReplyTo LIMIT task (R.state reader.old).left) }
     ensures output { IfOk result HasOutput }

@@ -24,9 +24,9 @@ use mvt_io::{Sink, Source, write_all};
 use std::alloc::Global;
 use std::io::ErrorKind;
 
-/// Checks files, one after another, and answers the status. What is said of a file stands after
-/// its name; a file that can't be read doesn't end the run, and of more than one file a line sums
-/// up.
+/// Checks files, one after another, and answers the status. Each line begins with the file's name.
+/// A file that can't be read doesn't end the run, and with more than one file the last line is a
+/// summary.
 pub fn check_files<F: Folder, W: Sink, E: Sink>(
     alloc: Global,
     names: &[String],
@@ -44,7 +44,7 @@ pub fn check_files<F: Folder, W: Sink, E: Sink>(
     tell_files(alloc, &Task::Check, names, folder, writer, errors)
 }
 
-/// The same of files that are checked, explained or linted, by the task: other tasks check them.
+/// The same for a task that checks, explains or lints the files; any other task checks them.
 pub fn tell_files<F: Folder, W: Sink, E: Sink>(
     alloc: Global,
     task: &Task,

@@ -17,7 +17,7 @@ pub fn one_reply()
         → IsReply LIMIT task input a → IsReply LIMIT task input b → a ≡ b }
 {}
 
-/// A check of files that was over before its first file, for want of memory, was cut short, with
+/// A check of files that was over before its first file, for lack of memory, was cut short, with
 /// one line told.
 pub fn cut_at_first()
     ensures { (limit : ℕ) (task : ATask) (holds : List ℕ → Option (List ℕ)) (names : List (List ℕ))

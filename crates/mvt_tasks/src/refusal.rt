@@ -1,4 +1,4 @@
-//! The lines that are told where a tile is refused.
+//! The lines for a refused tile.
 ghost use Rattle.std.specs.Prelude.{◌≡◌, ◌++◌, IfOk, IfErr, codes};
 ghost use Rattle.mvt_view.specs.FaultLines.{fault_line};
 ghost use Rattle.mvt_tasks.specs.Failures.{IsRefusal, refusal_failure};
@@ -19,7 +19,7 @@ pub(crate) fn fault_printed(alloc: Global, fault: &Fault) -> Result<Text, Failur
     Ok(Text::from_string(line)?)
 }
 
-/// The line of a tile that is refused, where it isn't memory or a read that failed.
+/// The line of a refused tile, unless memory ran out or a read failed.
 pub(crate) fn refusal(alloc: Global, error: DecodeError) -> Result<Text, Failure>
     ensures line { IfOk result (IsRefusal error) }
     ensures failed { IfErr result (λ failure. failure ≡ refusal_failure error) }

@@ -1,4 +1,4 @@
-//! What a command answers, and how it is put out.
+//! What a command answers, and how it is written.
 ghost use Rattle.std.specs.Prelude.{◌≡◌, ◌<◌, ◌⊎◌, None, OnOk, OnErr, IfOk, IfErr};
 ghost use Rattle.mvt_io.specs.States.{NoneFailed};
 ghost use Rattle.mvt_io.specs.Transfers.{TakesPrefix};
@@ -10,9 +10,9 @@ use crate::failure::Failure;
 use mvt_base::{Items, Text};
 use mvt_io::{Sink, write_all};
 
-/// What a command answers: the bytes for the output, if there are any due, the line for the error
-/// stream, if there is one, and whether the bytes tell findings. The status is 1 exactly where
-/// there is a line, and else 5 where there are findings.
+/// What a command answers: the bytes for the output, if any, the line for the error stream, if
+/// there is one, and whether the bytes tell findings. The status is 1 exactly if there is a line,
+/// and else 5 if there are findings.
 #[derive(Debug, Drop)]
 pub struct Reply {
     pub output: Option<Items<u8>>,
@@ -61,7 +61,7 @@ fn put_out<W: Sink>(bytes: &[u8], writer: &mut W) -> Result<(), Failure>
     writer.flush().map_err(|_| Failure::Write)
 }
 
-/// Puts a reply out, and answers its status; 3 where that failed.
+/// Writes a reply, and answers its status; 3 if that failed.
 pub(crate) fn give<W: Sink, E: Sink>(reply: Reply, writer: &mut W, errors: &mut E) -> u8
     ensures done { IsGiven result → GivesReply result (writer.new ≡ writer.old)
         (PutOut (W.state writer.old) (W.state writer.new)) (errors.new ≡ errors.old)
@@ -105,7 +105,7 @@ pub(crate) fn fail<E: Sink>(failure: Failure, errors: &mut E) -> u8
     failure.status()
 }
 
-/// Puts a line on the error stream, whose faults are ignored.
+/// Writes a line to the error stream, whose faults are ignored.
 pub fn print<E: Sink>(errors: &mut E, line: &str)
     ensures { Prints (E.state errors.old) (E.state errors.new) line.now }
 {

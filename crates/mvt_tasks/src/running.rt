@@ -1,4 +1,4 @@
-//! A task run: its input is read, and then its reply is put out.
+//! Running a task: its input is read, and then its reply is written.
 ghost use Rattle.std.specs.Prelude.{◌≡◌, ◌+◌, ◌<◌, ◌⊎◌};
 ghost use Rattle.mvt_io.specs.States.{NoneFailed};
 ghost use Rattle.mvt_io.specs.Transfers.{Reads, TakesPrefix};
@@ -17,8 +17,8 @@ use mvt_io::{Sink, Source};
 use std::alloc::Global;
 
 /// Runs a task, and answers the program's status: 0 for a reply without a line, 1 for one with a
-/// line, 3 where a read or a write failed, 4 for want of memory, 5 for a reply with findings.
-/// Faults of `errors` are ignored.
+/// line, 3 if a read or a write failed, 4 for lack of memory, 5 for a reply with findings. Faults
+/// of `errors` are ignored.
 pub fn run_task<R: Source, W: Sink, E: Sink>(
     alloc: Global,
     task: Task,

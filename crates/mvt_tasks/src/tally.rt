@@ -32,7 +32,7 @@ impl Verdict {
     }
 }
 
-/// How many files were accepted, refused and unread, and whether something was found of any.
+/// How many files were accepted, refused and unread, and whether any has findings.
 #[derive(Clone, Copy, Debug)]
 pub struct Tally {
     pub accepted: usize,
@@ -90,7 +90,7 @@ impl Tally {
         }
     }
 
-    /// The line that sums up so many files, with its line feed; nothing for less than two.
+    /// The summary of this many files, with its line feed; nothing for less than two.
     #[tactic(auto, unfolding(crate::specs::Checks::summary))]
     pub fn line(self, alloc: Global, all: usize) -> Result<String, AllocError>
         ensures { IfOk result (λ line. string_bytes line ≡ summary all self) }

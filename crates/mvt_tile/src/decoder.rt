@@ -14,7 +14,7 @@ use mvt_tile_value::Tile;
 use std::alloc::Global;
 use std::marker::Model;
 
-/// A reader of one tile that comes in pieces, cut anywhere.
+/// Reads one tile that comes in pieces of any length.
 ///
 /// ```ignore
 /// let mut decoder = TileDecoder::new(alloc);
@@ -25,8 +25,8 @@ use std::marker::Model;
 /// ```
 ///
 /// It keeps the items that it read, their names, and the bytes after the last whole field. A field
-/// is judged once, when it is whole, so a fault is told as soon as no further byte can change it.
-/// After an error it answers that error for good, and holds no bytes.
+/// is judged once, when it is whole, so a fault is reported as soon as no further byte can change
+/// it. After an error it keeps answering that error, and holds no bytes.
 #[derive(Drop)]
 pub struct TileDecoder {
     decoder: VisitingDecoder<ItemKeeper>,
@@ -41,7 +41,7 @@ impl Model for TileDecoder {
 }
 
 impl TileDecoder {
-    /// A decoder of no bytes yet, which takes no memory.
+    /// A decoder without bytes yet. Takes no memory.
     pub fn new(alloc: Global) -> Self
         ensures stands { StandsFor LIMIT result [] }
         ensures fresh { result.0.failure ≡ None }
@@ -62,7 +62,7 @@ impl TileDecoder {
     ///
     /// # Errors
     ///
-    /// The first fault of the input so far, unless further bytes may change it; want of memory.
+    /// The first fault of the input so far, unless further bytes may change it; out of memory.
     pub fn feed(&mut self, piece: &[u8]) -> Result<(), DecodeError>
         ensures stands { (s : List ℕ) → StandsFor LIMIT self.old s
             → StandsFor LIMIT self.new (s ++ piece.now) }
@@ -97,7 +97,7 @@ impl TileDecoder {
 ///
 /// # Errors
 ///
-/// Its first fault; want of memory. Never a failed read.
+/// Its first fault; out of memory. Never a failed read.
 pub fn decode(alloc: Global, bytes: &[u8]) -> Result<Tile, DecodeError>
     ensures tile { IfOk result (IsTile LIMIT bytes.now) }
     ensures valid { IfOk result Valid }

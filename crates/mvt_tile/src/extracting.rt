@@ -1,5 +1,5 @@
-//! The named layers of a tile's bytes: its items are read one after the other, and only the
-//! canonical bytes of those layers are kept.
+//! The named layers of a tile's bytes: its items are read one after another, and only the canonical
+//! bytes of those layers are kept.
 ghost use Rattle.std.specs.Prelude.{◌≡◌, List, [], map, not, bytes_eq, string_bytes, IfOk, IfErr, IfSome, OnOk};
 ghost use Rattle.std.specs.Io.KnownBytes.{IsAtEnd};
 ghost use Rattle.std.specs.List.{list_any, position_from};
@@ -35,13 +35,13 @@ pub enum NamedLayers {
     TooLarge,
 }
 
-/// The canonical bytes of the layers of version 2 that are named, in the order of the tile. A name
-/// that stands twice counts once. One item is held at a time.
+/// The canonical bytes of the named layers of version 2, in the order of the tile. A repeated name
+/// counts once. One item is held at a time.
 ///
 /// # Errors
 ///
-/// The first fault of the whole tile, which is the one that [`decode`](crate::decode) tells; want
-/// of memory. Never a failed read.
+/// The first fault of the whole tile, as [`decode`](crate::decode) reports it; out of memory. Never
+/// a failed read.
 pub fn extract_bytes(
     alloc: Global,
     bytes: &[u8],
@@ -56,11 +56,11 @@ pub fn extract_bytes(
     Ok(rewritten(alloc, taken, names)?)
 }
 
-/// The same of the tile that a reader has left. It reads no further after a fault.
+/// The same for the tile that a reader has left. It reads no further after a fault.
 ///
 /// # Errors
 ///
-/// The input's first fault; a read that failed; want of memory.
+/// The input's first fault; a read that failed; out of memory.
 pub fn extract_tile<R: Source>(
     alloc: Global,
     names: &[String],

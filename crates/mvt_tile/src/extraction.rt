@@ -10,13 +10,12 @@ use mvt_message::Item;
 use mvt_tile_value::Tile;
 use std::alloc::{AllocError, Global};
 
-/// The layers of version 2 that are named, in the order of the tile. Foreign items are left out,
-/// and a name that stands twice counts once. Of a valid tile that is a valid tile.
+/// The named layers of version 2, in the order of the tile. Foreign items are left out, and a
+/// repeated name counts once. The layers of a valid tile are a valid tile.
 ///
 /// # Errors
 ///
-/// A name that no layer of version 2 has, which is looked for before any memory is taken; want of
-/// memory.
+/// A name that no layer of version 2 has, which is found before any memory is taken; out of memory.
 pub fn extract(alloc: Global, tile: &Tile, names: &[String]) -> Result<Tile, ExtractError>
     ensures pick { IfOk result (λ picked. picked ≡ pick tile.now (map string_bytes names.now)) }
     ensures valid { Valid tile.now → IfOk result Valid }

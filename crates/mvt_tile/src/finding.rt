@@ -22,14 +22,13 @@ use mvt_tile_value::numbers::tile;
 use mvt_wire::{Field, Fields, Payload};
 use std::alloc::Global;
 
-/// Has a visitor take the first layer of version 2 of a name, and answers it; none where no layer
-/// has that name. Of the layers before it the versions and names are looked at, and of what is
-/// after it nothing.
+/// Passes the first layer of version 2 with a name to a visitor, and answers the visitor, or `None`
+/// if no layer has that name. Reads only as far as this layer, and of earlier layers only the
+/// version and the name; later bytes may be broken.
 ///
 /// # Errors
 ///
-/// The first fault of that layer; bytes that are no field, before it; too many bytes; want of
-/// memory.
+/// The first fault of that layer; bytes before it that are no field; too many bytes; out of memory.
 pub fn visit_named<V: TileVisitor>(
     alloc: Global,
     visitor: V,

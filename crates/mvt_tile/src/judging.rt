@@ -17,8 +17,7 @@ use std::alloc::Global;
 ///
 /// # Errors
 ///
-/// The first fault, which is the one that [`decode`](crate::decode) tells; want of memory. Never a
-/// failed read.
+/// The first fault, as [`decode`](crate::decode) reports it; out of memory. Never a failed read.
 pub fn judge(alloc: Global, bytes: &[u8]) -> Result<(), DecodeError>
     ensures ok { OnOk result (fault_within LIMIT bytes.now ≡ None) }
     ensures tile { OnOk result ((tile : Tile) × IsTile LIMIT bytes.now tile) }

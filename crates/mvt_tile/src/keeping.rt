@@ -15,7 +15,7 @@ pub(crate) struct ItemKeeper {
 }
 
 impl ItemKeeper {
-    /// No items, without memory.
+    /// No items yet. Takes no memory.
     pub(crate) fn new(alloc: Global) -> Self
         ensures { result.items.items ≡ [] }
     {

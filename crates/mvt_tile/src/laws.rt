@@ -36,7 +36,7 @@ pub fn fault_past_limit()
         → (f : Fault) × (fault_within LIMIT s ≡ Some f) × (is_open f ≡ false) }
 {}
 
-/// Bytes are a tile exactly where they have no fault, and then one tile.
+/// Bytes are a tile exactly if they have no fault, and then they are one tile.
 pub fn tile_or_fault()
     ensures there { (b : List ℕ) → fault_within LIMIT b ≡ None → (tile : Tile)
         × IsTile LIMIT b tile }
@@ -68,8 +68,8 @@ pub fn names_apart()
         → repeats (flat_map names_in items) (names_in item) ≡ false }
 {}
 
-/// In a tile the first layer of a name is its one layer of that name; where there is no first, none
-/// has the name.
+/// In a tile, the first layer with a name is the only one; if there is no first one, no layer has
+/// the name.
 pub fn one_of_a_name()
     ensures one { (b name : List ℕ) (tile : Tile) (item : Item) → IsTile LIMIT b tile
         → IsFirst name b item → named_in name tile.items ≡ item ∷ [] }

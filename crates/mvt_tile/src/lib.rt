@@ -1,6 +1,6 @@
 //! Mapbox vector tiles: reading, writing, streaming, extraction, notes, findings.
 //!
-//! What a tile is made of is handed up here, so a caller names this crate alone.
+//! It re-exports what a tile is made of, so a caller needs to name this crate alone.
 #![tactic(auto)]
 
 mod decoder;

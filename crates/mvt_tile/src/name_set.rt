@@ -32,7 +32,7 @@ impl Model for NameSet {
 }
 
 impl NameSet {
-    /// No names, without memory.
+    /// No names yet. Takes no memory.
     pub fn new(alloc: Global) -> Self
         ensures { result ≡ [] }
     {
@@ -52,11 +52,11 @@ impl NameSet {
         }
     }
 
-    /// Adds the name of an item, where it has one, and answers whether it is new.
+    /// Adds the name of an item, if it has one, and answers whether it is new.
     ///
     /// # Errors
     ///
-    /// When memory runs out; the names are then as they were.
+    /// When memory runs out; the names are then unchanged.
     pub fn add(&mut self, name: Option<Text>) -> Result<bool, AllocError>
         ensures new { IfOk result (λ new. new ≡ not (repeats self.old (option_to_list name))) }
         ensures named { IfOk result (λ new. IsTrue new → (n : List ℕ)

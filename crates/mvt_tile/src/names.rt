@@ -25,7 +25,7 @@ pub(crate) struct Names {
 }
 
 impl Names {
-    /// No names, without memory.
+    /// No names yet. Takes no memory.
     pub(crate) fn new(alloc: Global) -> Self
         ensures { AreNamed result.count result.names [] }
     {
@@ -35,7 +35,7 @@ impl Names {
         }
     }
 
-    /// Adds one item more, with its name where it has one. A name that is there is a fault.
+    /// Adds one item more, with its name if it has one. A name that is there is a fault.
     pub(crate) fn add(&mut self, name: Option<Text>, tag_at: u64) -> Result<(), DecodeError>
         requires { self.old.count ≤ LIMIT }
         ensures added { OnOk result ((items : List Item) (item : Item)
@@ -78,8 +78,8 @@ pub(crate) fn text_of(alloc: Global, name: Option<&str>) -> Result<Option<Text>,
     }
 }
 
-/// Adds the name of an item to the names of those before it, where it has one, and answers whether
-/// it is new.
+/// Adds the name of an item to the names of those before it, if it has one, and answers whether it
+/// is new.
 pub(crate) fn add_name(names: &mut BTreeSet<Text>, name: Option<Text>) -> Result<bool, AllocError>
     ensures new { IfOk result (λ new. new ≡ not (repeats names.old.keys (option_to_list name))) }
     ensures named { IfOk result (λ new. IsTrue new → (n : List ℕ)

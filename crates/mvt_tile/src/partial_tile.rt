@@ -26,7 +26,7 @@ pub(crate) struct PartialTile<V> {
 }
 
 impl<V: TileVisitor> PartialTile<V> {
-    /// No pieces yet, without memory.
+    /// No pieces yet. Takes no memory.
     pub(crate) fn new(alloc: Global, visitor: V) -> Self
         ensures taken { (given : V.Given) → V.has_items given [] visitor []
             → HasTaken (V.has_items given []) result.taken [] }

@@ -33,7 +33,7 @@ const MOST_READS: u64 = LIMIT + 2;
 ///
 /// # Errors
 ///
-/// The input's first fault; a read that failed; want of memory.
+/// The input's first fault; a read that failed; out of memory.
 pub fn read_tile<R: Source>(alloc: Global, reader: &mut R) -> Result<Tile, DecodeError>
     ensures tile { IfOk result (λ tile. IfSome (R.state reader.old).left
         (λ input. IsTile LIMIT input tile)) }

@@ -1,5 +1,5 @@
-//! A tile made canonical: its items that are wanted are rewritten one after the other, and the
-//! others are judged.
+//! A tile made canonical: its items that are wanted are rewritten one after another, and the others
+//! are judged.
 ghost use Rattle.std.specs.Prelude.{◌≡◌, ◌+◌, ◌≤◌, max, Bool, true, false, List, [], ◌∷◌, ◌++◌, length, IfOk, IfErr, IfSome, OnOk};
 ghost use Rattle.std.specs.Io.KnownBytes.{IsAtEnd};
 ghost use Rattle.std.specs.List.{flat_map};
@@ -33,13 +33,11 @@ use std::alloc::{AllocError, Global};
 use std::collections::BTreeSet;
 use std::str;
 
-/// The canonical bytes of a tile; `None` where these are more than the limit. One item is held at a
-/// time.
+/// The canonical bytes of a tile; `None` if they exceed the limit. One item is held at a time.
 ///
 /// # Errors
 ///
-/// The first fault, which is the one that [`decode`](crate::decode) tells; want of memory. Never a
-/// failed read.
+/// The first fault, as [`decode`](crate::decode) reports it; out of memory. Never a failed read.
 pub fn rewrite(alloc: Global, bytes: &[u8]) -> Result<Option<Vec<u8>>, DecodeError>
     ensures tile { IfOk result (λ out. (tile : Tile) × IsTile LIMIT bytes.now tile × Valid tile
         × IsEncoded LIMIT tile out) }
@@ -49,12 +47,12 @@ pub fn rewrite(alloc: Global, bytes: &[u8]) -> Result<Option<Vec<u8>>, DecodeErr
     Ok(rewriter.out)
 }
 
-/// The canonical bytes of the tile that a reader has left; `None` where these are more than the
-/// limit. One item is held at a time. It reads no further after a fault.
+/// The canonical bytes of the tile that a reader has left; `None` if they exceed the limit. One
+/// item is held at a time. It reads no further after a fault.
 ///
 /// # Errors
 ///
-/// The input's first fault; a read that failed; want of memory.
+/// The input's first fault; a read that failed; out of memory.
 pub fn rewrite_tile<R: Source>(
     alloc: Global,
     reader: &mut R,

@@ -17,12 +17,11 @@ use mvt_io::{Sink, Source};
 use mvt_tile_value::{Tile, WriteError, write_tile};
 use std::alloc::Global;
 
-/// Writes a tile, and then reads what a reader has left, which may be what the writer took: the
-/// same store opened again.
+/// Writes a tile, and then reads what a reader has left, for example the same file opened again.
 ///
-/// The writer takes exactly the canonical bytes, and a reader of these bytes gives the tile,
-/// however they are cut; any other bytes are read as the one tile that they are, or as their first
-/// fault.
+/// The writer receives exactly the canonical bytes. A reader of these bytes gives the tile,
+/// whatever number of bytes each read returns; any other bytes are read as the one tile that they
+/// are, or as their first fault.
 ///
 /// # Errors
 ///

@@ -1,4 +1,4 @@
-//! Surveying a tile: its items are judged or made canonical one after the other, and none is kept.
+//! Surveying a tile: its items are judged or made canonical one after another, and none is kept.
 ghost use Rattle.std.specs.Prelude.{◌≡◌, bytes_eq, IfOk, IfErr};
 ghost use Rattle.mvt_message.specs.ValidItems.{ValidItem};
 ghost use Rattle.mvt_tile_value.specs.declared.tile.Tile.{Tile};
@@ -18,14 +18,13 @@ use mvt_message::MessageError;
 use mvt_tile_value::{Survey, SurveyBuilder};
 use std::alloc::Global;
 
-/// Surveys a tile. One item is taken at a time, feature by feature. Where it may be canonical and
-/// isn't as it stands, it is made so, compared with the bytes where it stands, and let go; else it
-/// is judged alone. So what is kept are the names of the layers and the notes.
+/// Surveys a tile, one item at a time and feature by feature. An item that may be canonical, but
+/// isn't as it stands, is made canonical, compared with its bytes, and dropped; any other item is
+/// only judged. So only the names of the layers and the notes are kept.
 ///
 /// # Errors
 ///
-/// The first fault, which is the one that [`decode`](crate::decode) tells; want of memory. Never a
-/// failed read.
+/// The first fault, as [`decode`](crate::decode) reports it; out of memory. Never a failed read.
 pub fn survey_tile(alloc: Global, bytes: &[u8]) -> Result<Survey, DecodeError>
     ensures survey { IfOk result (λ survey. (tile : Tile) × IsTile LIMIT bytes.now tile × Valid tile
         × (survey ≡ survey_of tile (bytes_eq bytes.now (canonical tile)))) }

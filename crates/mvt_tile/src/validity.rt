@@ -15,8 +15,8 @@ use mvt_message::{Item, is_valid_item, validate_item};
 use mvt_tile_value::Tile;
 use std::alloc::{AllocError, Global};
 
-/// Whether a tile can be written. It takes no memory, and time that grows with the square of the
-/// number of layers and of a feature's attributes: `validate` is for tiles of strangers.
+/// Whether a tile can be written. Takes no memory, and time quadratic in the number of layers and
+/// in a feature's attributes: for tiles from strangers use `validate`.
 pub fn is_valid(tile: &Tile) -> bool
     ensures { IsTrue result ↔ Valid tile.now }
 {
@@ -24,16 +24,15 @@ pub fn is_valid(tile: &Tile) -> bool
     are_valid(items) && have_distinct_names(items)
 }
 
-/// The same, in time that grows as that of sorting the names of the layers and the keys of each
-/// feature.
+/// The same, in the time of sorting the names of the layers and the keys of each feature.
 pub fn validate(alloc: Global, tile: &Tile) -> Result<bool, AllocError>
     ensures { IfOk result (λ valid. IsTrue valid ↔ Valid tile.now) }
 {
     Ok(first_invalid(alloc, tile)?.is_none())
 }
 
-/// The index of the first item that keeps a tile from being written, since it can't be written
-/// itself or has the name of an earlier layer. It takes the time that [`validate`] takes.
+/// The index of the first item that keeps a tile from being written: it can't be written itself, or
+/// has the name of an earlier layer. Takes as long as [`validate`].
 pub fn first_invalid(alloc: Global, tile: &Tile) -> Result<Option<usize>, AllocError>
     ensures { IfOk result (λ found. MatchOption found (Valid tile.now)
         (IsFirstInvalid tile.now.items)) }

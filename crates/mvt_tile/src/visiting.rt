@@ -1,4 +1,4 @@
-//! Going over a tile: a visitor is told the payload of each item.
+//! Going over a tile: a visitor receives the payload of each item.
 ghost use Rattle.std.specs.Prelude.{◌≡◌, ℕ, ◌+◌, ◌≤◌, List, [], ◌∷◌, ◌++◌, length, IfOk, IfErr};
 ghost use Rattle.std.specs.Option.{option_to_list};
 ghost use Rattle.mvt_base.specs.Reports.{Reports};
@@ -20,8 +20,8 @@ use mvt_base::{LIMIT, Text};
 use mvt_message::MessageError;
 use std::alloc::Global;
 
-/// What is told the items of a tile, one after the other. It judges an item while it takes it, but
-/// for its name.
+/// An object that receives the items of a tile, one after another. It judges each item as it takes
+/// it, except for a repeated name.
 pub trait TileVisitor: Drop {
     // What it was given beside the items.
     ghost Given: { Type 0 };
@@ -34,7 +34,7 @@ pub trait TileVisitor: Drop {
     ///
     /// # Errors
     ///
-    /// The first broken rule of the payload; want of memory.
+    /// The first broken rule of the payload; out of memory.
     fn visit_item(
         &mut self,
         alloc: Global,
@@ -54,12 +54,11 @@ pub trait TileVisitor: Drop {
             (item_fault payload.now payload_at tag_at)) };
 }
 
-/// Has a visitor take the items of a tile, and answers it.
+/// Passes the items of a tile to a visitor, and answers the visitor.
 ///
 /// # Errors
 ///
-/// The first fault, which is the one that [`decode`](crate::decode) tells; want of memory. Never a
-/// failed read.
+/// The first fault, as [`decode`](crate::decode) reports it; out of memory. Never a failed read.
 pub fn visit_tile<V: TileVisitor>(alloc: Global, visitor: V, bytes: &[u8]) -> Result<V, DecodeError>
     requires { (given : V.Given) × V.has_items given [] visitor [] }
     ensures tile { (given : V.Given) → V.has_items given [] visitor [] → IfOk result (λ visitor.

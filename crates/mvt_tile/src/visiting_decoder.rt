@@ -14,10 +14,10 @@ use mvt_base::LIMIT;
 use std::alloc::Global;
 use std::marker::Model;
 
-/// Has a visitor take the items of one tile that comes in pieces, cut anywhere.
+/// Passes the items of a tile that comes in pieces of any length to a visitor.
 ///
-/// A field is judged once, when it is whole, so a fault is told as soon as no further byte can
-/// change it. After an error it answers that error for good, and holds no bytes.
+/// A field is judged once, when it is whole, so a fault is reported as soon as no further byte can
+/// change it. After an error it keeps answering that error, and holds no bytes.
 #[derive(Drop)]
 pub struct VisitingDecoder<V: TileVisitor> {
     alloc: Global,
@@ -54,7 +54,7 @@ impl<V: TileVisitor> Model for VisitingDecoder<V> {
 }
 
 impl<V: TileVisitor> VisitingDecoder<V> {
-    /// A decoder of no bytes yet, which takes no memory.
+    /// A decoder without bytes yet. Takes no memory.
     pub fn new(alloc: Global, visitor: V) -> Self
         requires { (given : V.Given) × V.has_items given [] visitor [] }
         ensures stands { (given : V.Given) → V.has_items given [] visitor []
@@ -79,7 +79,7 @@ impl<V: TileVisitor> VisitingDecoder<V> {
     ///
     /// # Errors
     ///
-    /// The first fault of the input so far, unless further bytes may change it; want of memory.
+    /// The first fault of the input so far, unless further bytes may change it; out of memory.
     pub fn feed(&mut self, piece: &[u8]) -> Result<(), DecodeError>
         ensures stands { (given : V.Given) (s : List ℕ)
             → StandsFor LIMIT (V.has_items given) self.old s

@@ -35,7 +35,7 @@ pub(crate) struct Taken<V> {
 }
 
 impl<V: TileVisitor> Taken<V> {
-    /// No items yet, without memory.
+    /// No items yet. Takes no memory.
     pub(crate) fn new(alloc: Global, visitor: V) -> Self
         ensures { (given : V.Given) → V.has_items given [] visitor []
             → HasTaken (V.has_items given []) result [] }

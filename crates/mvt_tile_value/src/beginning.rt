@@ -1,4 +1,4 @@
-//! Whether a canonical layer may stand at the front of bytes: their first fields tell.
+//! Whether a canonical layer may stand at the front of bytes, by their first fields.
 ghost use Rattle.std.specs.Prelude.{◌≡◌, ◌++◌, ℕ, true, false, List, [], Some};
 ghost use Rattle.std.specs.Option.{option_copied};
 ghost use Rattle.mvt_wire.specs.Field.{bytes as in_bytes, varint};

@@ -30,7 +30,7 @@ pub(crate) fn after_item<'b>(
     Ok(after(tail, from_tail))
 }
 
-/// The number of an item's bytes. More than can be counted don't fit any memory.
+/// The number of an item's bytes. More than can be counted don't fit into any memory.
 fn len_of(head: &[u8], features: &[u8], tail: &[u8]) -> Result<usize, AllocError>
     ensures { IfOk result (λ len. len ≡ length (head.now ++ (features.now ++ tail.now))) }
 {

@@ -17,13 +17,13 @@ use std::alloc::{AllocError, Global};
 
 /// The canonical bytes of a tile.
 ///
-/// An attribute's texts are compared with those of its layer, each time as far as they are alike:
-/// so long texts that many features name, and that differ at their ends, cost their length for each
-/// of them. Bytes are made canonical without that, by `rewrite` of mvt_tile.
+/// Each attribute's texts are compared with those of its layer. So long texts that differ only at
+/// their ends, and that many features name, cost their length for each of these features. `rewrite`
+/// of mvt_tile makes bytes canonical without that cost.
 ///
 /// # Errors
 ///
-/// Want of memory; TooLarge for more bytes than the limit.
+/// Out of memory; TooLarge if there are more bytes than the limit.
 pub fn encode(alloc: Global, tile: &Tile) -> Result<Vec<u8>, PutError>
     requires { Valid tile.now }
     ensures put { IfOk result (λ bytes. bytes.items ≡ canonical tile.now) }
@@ -39,8 +39,8 @@ pub fn encode(alloc: Global, tile: &Tile) -> Result<Vec<u8>, PutError>
     out.ok_or(PutError::TooLarge)
 }
 
-/// The canonical bytes of one item more, after those of the items before it; `None` from where
-/// they are more than the limit.
+/// The canonical bytes of one more item, after those of the items before it; `None` once they
+/// exceed the limit.
 fn encode_more(
     alloc: Global,
     out: Option<Vec<u8>>,
@@ -60,7 +60,7 @@ fn encode_more(
     }
 }
 
-/// The same of an item whose canonical payload this is.
+/// The same for an item whose canonical payload this is.
 pub fn encode_payload(out: Option<Vec<u8>>, payload: &[u8]) -> Result<Option<Vec<u8>>, AllocError>
     ensures { (items : List Item) (item : Item) → AreEncoded LIMIT items out
         → payload.now ≡ canonical_item item

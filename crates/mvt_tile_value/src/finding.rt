@@ -2,8 +2,8 @@
 
 /// A finding, with the places of what it speaks of, all counted from 0.
 ///
-/// The tile keeps every rule of the standard; what some viewers make of it is told in
-/// docs/OTHER_PROGRAMS.md.
+/// The tile keeps every rule of the standard; docs/OTHER_PROGRAMS.md says what some viewers do with
+/// it.
 #[derive(Clone, Copy, Debug, PartialEq, Eq)]
 pub enum Finding {
     /// A layer whose extent is 0.

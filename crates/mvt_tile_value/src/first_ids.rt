@@ -17,7 +17,7 @@ pub(crate) struct FirstIds {
 }
 
 impl FirstIds {
-    /// Of no features, without memory.
+    /// For no features yet. Takes no memory.
     pub(crate) fn new(alloc: Global) -> Self
         ensures { AreFirst result (λ _. None) }
     {
@@ -27,7 +27,7 @@ impl FirstIds {
         }
     }
 
-    /// The first feature so far with an id. Where there is none, this one becomes it.
+    /// The first feature so far with an id. If there is none, this one becomes it.
     pub(crate) fn take(&mut self, id: u64, feature: usize) -> Result<Option<usize>, AllocError>
         ensures earlier { (first : ℕ → Option ℕ) → AreFirst self.old first
             → IfOk result (λ earlier. earlier ≡ first id) }

@@ -30,7 +30,7 @@ pub(crate) struct LayerNotes {
 }
 
 impl LayerNotes {
-    /// Of no features, without memory.
+    /// For no features yet. Takes no memory.
     pub(crate) fn new(alloc: Global, layer: usize) -> Self
         ensures { AreNotedSoFar layer result [] }
     {

@@ -1,5 +1,5 @@
-//! A tile as a value: its canonical bytes and the writing of them, what is noted and what is found
-//! of it, and what a survey says of it. Tiles are read in mvt_tile, which hands up what is here.
+//! A tile as a value: its canonical bytes and how they are written, its notes, findings and
+//! surveys. mvt_tile reads tiles, and re-exports what is here.
 #![tactic(auto)]
 
 mod beginning;

@@ -126,7 +126,7 @@ fn note_geometry(
     }
 }
 
-/// The rings are counted through all polygons. More than can be counted don't fit any memory.
+/// The rings are counted through all polygons. More than can be counted don't fit into any memory.
 fn note_polygons(
     notes: &mut Vec<Note>,
     layer: usize,

@@ -30,7 +30,7 @@ pub(crate) struct RingNotes {
 }
 
 impl RingNotes {
-    /// Of a layer's first feature, without memory.
+    /// For a layer's first feature. Takes no memory.
     pub(crate) fn new(alloc: Global, layer: usize) -> Self
         ensures { HasBegun layer 0 result }
     {
@@ -102,7 +102,7 @@ impl RingNotes {
         }
     }
 
-    /// Notes the next ring. More than can be counted don't fit any memory.
+    /// Notes the next ring. More than can be counted don't fit into any memory.
     fn add(&mut self, ring: Ring) -> Result<(), AllocError>
         ensures { (points : List APoint) → ring.twice_area ≡ area2 points
             → ring.is_closed ≡ is_closed points

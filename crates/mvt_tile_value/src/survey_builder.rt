@@ -1,4 +1,4 @@
-//! What is found of items, one after the other.
+//! What is found of items, one after another.
 ghost use Rattle.std.specs.Prelude.{◌≡◌, ℕ, ◌+◌, ◌*◌, ◌^◌, ◌<◌, ◌≤◌, List, [], ◌∷◌, ◌++◌, length, bytes_eq, None, IfOk, IfErr, OnOk};
 ghost use Rattle.std.specs.Option.{option_copied, option_to_list};
 ghost use Rattle.mvt_base.specs.Reports.{Reports};
@@ -44,7 +44,7 @@ pub struct SurveyBuilder<'a> {
 }
 
 impl<'a> SurveyBuilder<'a> {
-    /// Of no items, without memory.
+    /// For no items yet. Takes no memory.
     pub fn new(alloc: Global, input: &'a [u8]) -> Self
         requires { length input.now ≤ LIMIT }
         ensures { AreFound LIMIT input.now result [] }
@@ -56,10 +56,10 @@ impl<'a> SurveyBuilder<'a> {
         }
     }
 
-    /// Adds what is found of the item of a payload, after so many others, and answers the name of
-    /// the layer. No value of it is made, and nothing is written for a layer that is canonical as
-    /// it stands, or that can't be where it stands. For another it holds the layer's keys and
-    /// values and the canonical fields of its features.
+    /// Adds what is found of an item, given by its payload and its index, and answers the name of
+    /// the layer. No value is made of it, and nothing is written for a layer that is canonical as
+    /// it stands, or that can't be canonical there. For another layer it holds the keys, the values
+    /// and the canonical fields of the features.
     ///
     /// # Errors
     ///
@@ -106,7 +106,7 @@ impl<'a> SurveyBuilder<'a> {
         }
     }
 
-    /// The same of any item, by its canonical bytes.
+    /// The same for any item, by its canonical bytes.
     fn add_rewritten<'b>(
         &mut self,
         alloc: Global,
@@ -143,7 +143,7 @@ impl<'a> SurveyBuilder<'a> {
         }
     }
 
-    /// The same of an item that is no canonical layer where it stands: nothing is written for it.
+    /// The same for an item that is no canonical layer where it stands: nothing is written for it.
     fn add_other<'b>(
         &mut self,
         alloc: Global,
@@ -263,7 +263,7 @@ impl<'a> SurveyBuilder<'a> {
         note_if(&mut self.notes, true, Note::Foreign(index, version))
     }
 
-    /// The survey of so many layers.
+    /// The survey of a tile with this many layers.
     pub fn into_survey(self, layers: u32) -> Result<Survey, AllocError>
         ensures { (input : List ℕ) (tile : Tile) → AreFound LIMIT input self.entry tile.items
             → length tile.items ≡ layers
@@ -299,8 +299,7 @@ fn canonical_notes<'b>(
     Ok((name, notes))
 }
 
-/// How many features an item has: those of a layer of version 2, and of other layers none are
-/// known.
+/// How many features a layer of version 2 has; 0 for a layer of another version.
 pub fn feature_count(item: &Item) -> usize
     ensures { result ≡ the_feature_count item.now }
 {

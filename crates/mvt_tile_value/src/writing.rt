@@ -21,15 +21,14 @@ use mvt_wire::{field_len, put_field_head};
 use std::alloc::Global;
 use std::io::ErrorKind;
 
-/// Has a writer take the canonical bytes of a tile. First the lengths of all items are added up;
-/// then one item after the other is made and written. So each item is made twice, and no more than
-/// one stands in memory. The writer isn't flushed. Texts cost what they cost
-/// [`encode`](crate::encode), twice.
+/// Writes the canonical bytes of a tile. First the lengths of all items are added up; then each
+/// item is made and written. So each item is made twice, and only one is in memory at a time. The
+/// writer isn't flushed. Texts cost twice what they cost in [`encode`](crate::encode).
 ///
 /// # Errors
 ///
-/// TooLarge for more bytes than the limit, of which none is written; a write that failed; want of
-/// memory. The writer has then taken a front of the bytes.
+/// TooLarge if there are more bytes than the limit, before anything is written; a write that
+/// failed; out of memory. The writer has then taken a front of the bytes.
 pub fn write_tile<W: Sink>(alloc: Global, tile: &Tile, writer: &mut W) -> Result<(), WriteError>
     requires { Valid tile.now }
     ensures wrote { OnOk result
@@ -76,7 +75,7 @@ fn layer_len(alloc: Global, item: &Item) -> Result<u64, PutError>
     Ok(field_len(tile::LAYERS, len))
 }
 
-/// Writes items one after the other.
+/// Writes items one after another.
 fn write_items<W: Sink>(alloc: Global, items: &[Item], writer: &mut W) -> Result<(), WriteError>
     requires valid { AllByRecursion ValidItem items.now }
     requires small { length (spelled (map item_field items.now)) ≤ LIMIT }

@@ -15,7 +15,7 @@ use std::alloc::{AllocError, Global};
 ///
 /// # Errors
 ///
-/// TooLarge for more bytes than the limit; want of memory.
+/// TooLarge for more bytes than the limit; out of memory.
 pub fn place_tile(alloc: Global, name: &str, at: Point) -> Result<Option<Vec<u8>>, PutError>
     ensures bytes { IfOk result (AreBytesOf (place_of name.now at)) }
     ensures reads { IfOk result (λ found. IfSome found (λ bytes.

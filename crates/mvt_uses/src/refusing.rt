@@ -7,11 +7,11 @@ use mvt_tile::{DecodeError, Fault, LIMIT, Source, read_tile};
 use std::alloc::Global;
 
 /// The first broken rule of the bytes that a reader has left, with its layer, its feature, its
-/// place and its cause; nothing where they are a tile. It reads no further after a fault.
+/// place and its cause; nothing if they are a tile. It reads no further after a fault.
 ///
 /// # Errors
 ///
-/// A read that failed; want of memory.
+/// A read that failed; out of memory.
 pub fn first_fault<R: Source>(alloc: Global, reader: &mut R) -> Result<Option<Fault>, DecodeError>
     ensures fault { IfOk result (λ found. IfSome (R.state reader.old).left
         (λ input. found ≡ fault_within LIMIT input)) }

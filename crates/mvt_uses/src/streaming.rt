@@ -8,11 +8,11 @@ ghost use Rattle.mvt_tile.specs.TileRules.{fault_within};
 use mvt_tile::{DecodeError, LIMIT, Tile, TileDecoder};
 use std::alloc::Global;
 
-/// The tile that pieces make, wherever they are cut.
+/// The tile that pieces make, whatever their lengths.
 ///
 /// # Errors
 ///
-/// The first fault of the pieces joined; want of memory.
+/// The first fault of the pieces joined; out of memory.
 pub fn tile_of_pieces(alloc: Global, pieces: &[&[u8]]) -> Result<Tile, DecodeError>
     ensures tile { IfOk result (IsTile LIMIT (flat_map (λ piece. piece.now) pieces.now)) }
     ensures fault { IfErr result (λ error. ReportsAtEnd error

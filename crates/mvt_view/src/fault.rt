@@ -1,4 +1,4 @@
-//! The line that tells a fault.
+//! The line of a fault.
 ghost use Rattle.std.specs.Prelude.{◌≡◌, ◌++◌, OnOk, IfOk, string_bytes};
 ghost use Rattle.mvt_view.specs.FaultLines.{fault_line, index_text};
 
@@ -24,7 +24,7 @@ pub fn fault_text(alloc: Global, fault: &Fault) -> Result<String, ViewError>
     Ok(text)
 }
 
-/// Appends an index, or a hyphen where there is none.
+/// Appends an index, or a hyphen if there is none.
 fn push_index(text: &mut String, index: Option<u32>) -> Result<(), AllocError>
     ensures { OnOk result (string_bytes text.new ≡ string_bytes text.old ++ index_text index) }
 {

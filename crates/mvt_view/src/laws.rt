@@ -2,8 +2,8 @@
 ghost use Rattle.std.specs.Prelude.{◌≡◌, ◌+◌, ℕ, List, take};
 ghost use Rattle.mvt_view.specs.FieldLines.{fields_fault, fields_lines};
 
-/// The first bytes of an input, one more than the limit, tell the same fields and the same fault as
-/// the whole of it.
+/// The first bytes of an input, up to one beyond the limit, have the same fields and the same fault
+/// as the whole input.
 pub fn front_reports()
     ensures lines { (limit : ℕ) (input : List ℕ)
         → fields_lines limit (take (limit + 1) input) ≡ fields_lines limit input }

@@ -56,7 +56,7 @@ fn put_signed(buffer: &mut [u8], end: usize, number: i32) -> usize
     start - 1
 }
 
-/// The same of digits alone.
+/// The same for digits alone.
 fn put_digits(buffer: &mut [u8], end: usize, number: u32) -> usize
     requires { (10 ≤ end) × (end ≤ length buffer.old) }
     ensures written { drop result buffer.new ≡ decimal number ++ drop end buffer.old }

@@ -9,10 +9,10 @@ use mvt_tile::{Items, Note, Survey, Tile, feature_count, notes};
 use std::alloc::{AllocError, Global};
 use std::fmt::Write;
 
-/// A line with the counts of layers and features and whether the tile's bytes were canonical, and
-/// then a line for each note. Each ends in a line feed.
+/// A line with the numbers of layers and features and whether the tile's bytes were canonical, and
+/// then a line for each note. Each ends with a line feed.
 ///
-/// Layers of every version are counted, features of those of version 2 alone.
+/// Layers of every version are counted, but only features of version 2.
 pub fn report_text(alloc: Global, tile: &Tile, canonical: bool) -> Result<String, ViewError>
     ensures { IfOk result (λ text. string_bytes text ≡ report_lines tile.now canonical) }
 {
@@ -25,7 +25,7 @@ pub fn report_text(alloc: Global, tile: &Tile, canonical: bool) -> Result<String
     survey_text(alloc, &survey)
 }
 
-/// The same of a tile that was surveyed.
+/// The same for a tile that was surveyed.
 pub fn survey_text(alloc: Global, survey: &Survey) -> Result<String, ViewError>
     ensures { IfOk result (λ text. string_bytes text ≡ survey_lines survey.now) }
 {

@@ -20,9 +20,8 @@ use std::fmt::Write;
 
 /// The picture of a tile as an SVG document, without a line end after it.
 ///
-/// Points are dots, lines strokes, and polygons are filled by the rule of even and odd. Each layer
-/// has the colour of its index in the tile. Of unknown geometry and of layers of another version
-/// nothing is drawn.
+/// Points are dots, lines are strokes, and polygons are filled by the even-odd rule. Each layer has
+/// the colour of its index in the tile. Unknown geometry and layers of other versions aren't drawn.
 #[tactic(auto, unfolding(crate::specs::Svg::svg, crate::specs::Svg::head_svg))]
 pub fn svg_text(alloc: Global, tile: &Tile) -> Result<String, ViewError>
     ensures { IfOk result (λ text. string_bytes text ≡ svg tile.now) }

@@ -1,4 +1,4 @@
-//! The rows that a visitor has behind a fault, and behind want of memory.
+//! The rows that a visitor has after a fault, or after memory ran out.
 use crate::expect::{expect, expect_eq};
 use crate::rows::{NONE, READ, READ_BYTES};
 use mvt_message::MessageError;

@@ -1,4 +1,4 @@
-//! Why bytes aren't the spelling that is due.
+//! Why bytes aren't the spelling that is expected.
 use std::error::Error;
 use std::fmt;
 

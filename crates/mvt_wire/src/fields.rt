@@ -1,4 +1,4 @@
-//! The fields of a slice, one after the other.
+//! The fields of a slice, one after another.
 ghost use Rattle.std.specs.Prelude.{◌≡◌, ◌+◌, length, slice_get, Some, IfOk, IfNone, IfSome, OnSome};
 ghost use Rattle.mvt_wire.specs.Fields.{GivesField};
 ghost use Rattle.mvt_wire.specs.Split.{split};
@@ -50,8 +50,8 @@ impl<'a> Fields<'a> {
         Fields { source, at: 0 }
     }
 
-    /// The next field, where its tag is this byte. It is found sooner than by `next`, since the tag
-    /// says what stands behind it.
+    /// The next field, if its tag is this byte. This is faster than `next`, since the tag says what
+    /// follows.
     #[inline(always)]
     pub fn next_tagged(&mut self, tag: u8) -> Option<Result<Field<'a>, WireFault>>
         ensures none { IfNone result (self.new ≡ self.old) }

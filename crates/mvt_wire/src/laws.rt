@@ -50,7 +50,7 @@ pub fn one_split()
         → (es ≡ fs) × (r ≡ s) }
 {}
 
-/// A rest has one cause, `rest_cause`; and where that isn't Truncated, no bytes after change it.
+/// A rest has one cause, `rest_cause`; unless that is Truncated, no later bytes change it.
 pub fn one_cause()
     ensures there { (b : List ℕ) → StartsNoField b → IsRestCause b (rest_cause b) }
     ensures only { (b : List ℕ) (c : WireCause) → IsRestCause b c
@@ -121,8 +121,8 @@ pub fn packed_split()
     ensures count { (b : List ℕ) → length (packed b).numbers + length (packed b).rest ≤ length b }
 {}
 
-/// A list breaks no rule of packed numbers exactly where it is packed numbers, and then it is those
-/// of `packed` alone.
+/// A list breaks no rule of packed numbers exactly if it is packed numbers, and then only those of
+/// `packed`.
 pub fn packed_function()
     ensures clean { (b : List ℕ) → first (packed_rules b) ≡ None → ArePacked b (packed b).numbers }
     ensures only { (b ns : List ℕ) → ArePacked b ns

@@ -20,7 +20,7 @@ pub trait NumberList {
     ///
     /// # Errors
     ///
-    /// When memory runs out; the numbers are then as they were.
+    /// When memory runs out; the numbers are then unchanged.
     fn push_number(&mut self, number: u32) -> Result<(), AllocError>
         ensures ok { OnOk result (numbers self.new ≡ numbers self.old ++ number ∷ []) }
         ensures err { OnErr result (numbers self.new ≡ numbers self.old) };

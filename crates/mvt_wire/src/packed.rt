@@ -14,7 +14,7 @@ use std::alloc::{AllocError, Global};
 use std::error::Error;
 use std::fmt;
 
-/// Why packed numbers can't be read: memory runs out, or else the first of the others that holds.
+/// Why packed numbers can't be read: out of memory, or else the first of the others that holds.
 #[derive(Clone, Copy, Debug, PartialEq, Eq)]
 pub enum PackedError {
     Memory,
@@ -57,7 +57,7 @@ impl Error for PackedError {}
 ///
 /// # Errors
 ///
-/// Where the bytes aren't the spellings of numbers below 2^32, or memory runs out.
+/// If the bytes don't spell numbers below 2^32, or memory runs out.
 pub fn read_packed(alloc: Global, bytes: &[u8]) -> Result<Vec<u32>, PackedError>
     ensures ok { IfOk result (λ v. ArePacked bytes.now v.items) }
     ensures err { IfErr result (λ e. Reports (fault_of e) (first (packed_rules bytes.now))) }
@@ -71,7 +71,7 @@ pub fn read_packed(alloc: Global, bytes: &[u8]) -> Result<Vec<u32>, PackedError>
 ///
 /// # Errors
 ///
-/// As `read_packed`; the vector is then as it was.
+/// As `read_packed`; the vector is then unchanged.
 pub fn append_packed(bytes: &[u8], out: &mut Vec<u32>) -> Result<(), PackedError>
     ensures ok { OnOk result (first (packed_rules bytes.now) ≡ None) }
     ensures numbers { OnOk result (out.new.items ≡ out.old.items ++ (packed bytes.now).numbers) }
@@ -110,8 +110,8 @@ fn append_numbers(bytes: &[u8], out: &mut Vec<u32>) -> Result<(), PackedError>
     Ok(())
 }
 
-/// The first of the numbers of a packed field, and the bytes behind it. `None` where no number
-/// below 2^32 is spelled in front.
+/// The first of the numbers of a packed field, and the bytes after it. `None` if the front spells
+/// no number below 2^32.
 #[inline(always)]
 pub fn packed_front(bytes: &[u8]) -> Option<(u32, &[u8])>
     ensures number { IfSome result (λ found. (ns : List ℕ) → ArePacked found.1.now ns
@@ -159,7 +159,7 @@ pub fn packed_len(numbers: &[u32]) -> u64
 ///
 /// # Errors
 ///
-/// Where the vector has no room and none is found.
+/// When memory runs out.
 pub fn put_packed(out: &mut Vec<u8>, number: u32, numbers: &[u32]) -> Result<(), AllocError>
     requires first { 1 ≤ number }
     requires last { number < 2 ^ 29 }

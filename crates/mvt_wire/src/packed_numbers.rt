@@ -66,7 +66,7 @@ impl PackedNumbers {
     ///
     /// # Errors
     ///
-    /// When memory runs out; the numbers are then as they were.
+    /// When memory runs out; the numbers are then unchanged.
     #[inline(always)]
     pub fn push(&mut self, number: u32) -> Result<(), AllocError>
         ensures ok { OnOk result (self.new ≡ self.old ++ number ∷ []) }

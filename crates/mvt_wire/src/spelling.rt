@@ -13,7 +13,7 @@ use std::alloc::AllocError;
 ///
 /// # Errors
 ///
-/// Where the vector has no room and none is found.
+/// When memory runs out.
 #[inline(always)]
 pub fn put_field(out: &mut Vec<u8>, number: u32, payload: &Payload<'_>) -> Result<(), AllocError>
     requires first { 1 ≤ number }
@@ -37,7 +37,7 @@ pub fn put_field(out: &mut Vec<u8>, number: u32, payload: &Payload<'_>) -> Resul
 ///
 /// # Errors
 ///
-/// Where the vector has no room and none is found; it is then as it was or a longer one.
+/// When memory runs out; the vector is then unchanged or longer.
 #[inline(always)]
 #[tactic(auto, unfolding(crate::specs::Spelling::short_field))]
 pub fn put_field_head(out: &mut Vec<u8>, number: u32, len: u64) -> Result<(), AllocError>

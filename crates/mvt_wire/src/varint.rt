@@ -46,7 +46,7 @@ pub(crate) fn varint_at(bytes: &[u8]) -> Result<(u64, usize), WireCause>
     }
 }
 
-/// The same of any spelling; the size is 0 where the bytes begin with no varint. A pair is handed
+/// The same for any spelling; the size is 0 where the bytes begin with no varint. A pair is handed
 /// out in registers, so that short spellings don't pay for a place in memory.
 #[inline(never)]
 fn long_varint_at(bytes: &[u8]) -> (u64, usize)
@@ -98,7 +98,7 @@ pub fn varint_len(number: u64) -> usize
 ///
 /// # Errors
 ///
-/// Where the vector has no room and none is found.
+/// When memory runs out.
 #[inline(always)]
 pub fn put_varint(out: &mut Vec<u8>, number: u64) -> Result<(), AllocError>
     ensures ok { OnOk result (out.new.items ≡ out.old.items ++ short number) }
