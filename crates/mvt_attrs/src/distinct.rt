@@ -85,8 +85,8 @@ fn are_many_distinct(alloc: Global, entries: &[&[u8]]) -> Result<bool, AllocErro
     Ok(true)
 }
 
-/// The slot for the entry of an index: the first free one from that of its hash on. `None` where
-/// an equal entry stands before, or no slot nearby is free.
+/// The slot for the entry of an index: the first free one from that of its hash on. `None` if an
+/// equal entry stands before, or no slot nearby is free.
 fn free_slot(slots: &[u32], entries: &[&[u8]], index: usize, room: usize) -> Option<usize>
     requires there { index < length entries.now }
     requires some { 0 < room }

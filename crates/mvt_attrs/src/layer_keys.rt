@@ -28,7 +28,7 @@ use std::marker::Model;
 pub struct LayerKeys<'k> {
     pub(crate) texts: &'k [Text],
     pub(crate) is_grouped: bool,
-    /// For each key the first index of its text, where they are grouped.
+    /// For each key the first index of its text, if they are grouped.
     pub(crate) first_indices: Vec<usize>,
     /// For each first index the last feature that named its text.
     pub(crate) named_by: Vec<u32>,

@@ -4,6 +4,6 @@
 pub(crate) enum Lookup {
     /// The place of the entry.
     Found(usize),
-    /// The entry is new. Where it has slots, the first of them that is free.
+    /// The entry is new. If it has slots, the first of them that is free.
     New { slot: Option<usize> },
 }

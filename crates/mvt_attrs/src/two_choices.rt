@@ -14,8 +14,8 @@ use std::hash::{DefaultHasher, FoldHasher, Hash, Hasher};
 /// How many slots are made for an entry.
 const SLOTS_PER_ENTRY: usize = 16;
 
-/// A slot holds the place of an entry, counted from 1, or 0 where it is free. An entry is in the
-/// first of its two slots that was free when it came, or in `overflow`.
+/// A slot holds the place of an entry, counted from 1, or 0 if it is free. An entry is in the first
+/// of its two slots that was free when it came, or in `overflow`.
 #[derive(Drop)]
 pub struct TwoChoices<T: Entry> {
     pub(crate) slots: Vec<u32>,
@@ -64,7 +64,7 @@ fn find_second<T: Entry>(two_choices: &TwoChoices<T>, entries: &[T], entry: &T) 
     }
 }
 
-/// What a slot tells of an entry; nothing where it is another's.
+/// What a slot tells of an entry; nothing if it is another's.
 #[inline(always)]
 fn reported_by<T: Entry>(slots: &[u32], slot: usize, entries: &[T], entry: &T) -> Option<Lookup>
     requires { slot < length slots.now }

@@ -223,7 +223,7 @@ impl<T: Entry> UsedEntries<T> {
     ///
     /// # Errors
     ///
-    /// As `add`, and where there is no such entry.
+    /// As `add`, and if there is no such entry.
     pub(crate) fn mark_used(&mut self, entry: u32) -> Result<u32, AllocError>
         ensures uses { (entries : List T) → AreUsesOf self.old entries
             → OnOk result (AreUsesOf self.new entries) }

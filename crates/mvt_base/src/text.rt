@@ -87,7 +87,7 @@ impl Text {
     ///
     /// # Errors
     ///
-    /// When memory runs out. Some is needed only where a long text has as many copies as can be
+    /// When memory runs out. Some is needed only if a long text has as many copies as can be
     /// counted: the copy then begins a block of its own.
     #[inline(always)]
     pub fn copy(&self, alloc: Global) -> Result<Self, AllocError>

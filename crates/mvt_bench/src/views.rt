@@ -1,6 +1,6 @@
 //! Texts of a tile that is read from its bytes, made so many times over. Each answers the length of
-//! the last one, 1 where none is made, and 0 for a fault and for lack of memory. The tile and the
-//! tree of its JSON aren't dropped.
+//! the last one, 1 if none is made, and 0 for a fault and for lack of memory. The tile and the tree
+//! of its JSON aren't dropped.
 use mvt_tile::decode;
 use mvt_view::{json_of, json_text, report_text};
 use std::alloc::Global;
@@ -40,7 +40,7 @@ pub extern "C" fn mvt_report_text(alloc: Global, bytes: &[u8], times: u32) -> u6
     len
 }
 
-/// The JSON of a tile as one tree, and its text where `prints`.
+/// The JSON of a tile as one tree, and its text if `prints`.
 #[unsafe(no_mangle)]
 pub extern "C" fn mvt_json_of(alloc: Global, bytes: &[u8], prints: bool) -> u64 {
     let Ok(tile) = decode(alloc, bytes) else {

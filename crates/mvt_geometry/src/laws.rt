@@ -50,7 +50,7 @@ pub fn old_geometries_stay()
     ensures { (g : Geometry) → IsValidNarrow g → IsValid g }
 {}
 
-/// Lines or rings can be drawn one after another where each can from where the last one ends.
+/// Lines or rings can be drawn one after another if each can be drawn from where the last one ends.
 pub fn stroke_follows()
     ensures { (least : ℕ) (lines : List (List Point)) (line : List Point)
         → AreStrokes least (lines ++ line ∷ [])

@@ -74,7 +74,7 @@ fn are_polygons(polygons: &[Polygon]) -> bool
     true
 }
 
-/// The last point of a polygon; None where none can be drawn from the cursor.
+/// The last point of a polygon; None if none can be drawn from the cursor.
 fn polygon_end(from: Point, polygon: &Polygon, is_first: bool) -> Option<Point>
     ensures some { IfSome result (λ last. IsPolygonFrom is_first from polygon.now
         × (last ≡ end_of_polygon from polygon.now)) }
@@ -108,7 +108,7 @@ fn are_inner(rings: &[Items<Point>]) -> bool
     true
 }
 
-/// The last point of lines; None where they can't be drawn from the cursor.
+/// The last point of lines; None if they can't be drawn from the cursor.
 fn lines_end(from: Point, lines: &[Items<Point>], least: usize) -> Option<Point>
     requires { 0 < least }
     ensures some { IfSome result (λ last. AreLinesFrom least from lines.now
@@ -122,7 +122,7 @@ fn lines_end(from: Point, lines: &[Items<Point>], least: usize) -> Option<Point>
     Some(cursor)
 }
 
-/// The last point of a line; None where it can't be drawn from the cursor.
+/// The last point of a line; None if it can't be drawn from the cursor.
 fn line_end(from: Point, line: &[Point], least: usize) -> Option<Point>
     requires { 0 < least }
     ensures some { IfSome result (λ last. IsLineFrom least from line.now
@@ -137,7 +137,7 @@ fn line_end(from: Point, line: &[Point], least: usize) -> Option<Point>
     path_end(start, others, true)
 }
 
-/// The last point of a path; None where it can't be drawn from the cursor.
+/// The last point of a path; None if it can't be drawn from the cursor.
 fn path_end(from: Point, points: &[Point], is_line: bool) -> Option<Point>
     ensures some { IfSome result (λ last. IsPath is_line from points.now
         × (last ≡ last_of from points.now)) }

@@ -56,7 +56,7 @@ impl Model for MemorySink {
 impl MemorySink {
     /// At most `step` bytes pass in a write, and `room` in all; the room is reserved here, and no
     /// other call takes memory. The writes numbered `fails_from` or later, from 0, fail with kind
-    /// `Other`, as do writes that aren't empty once the room is used up, and each flush where
+    /// `Other`, as do writes that aren't empty once the room is used up, and each flush if
     /// `flush_fails`.
     pub fn new(
         alloc: Global,

@@ -175,7 +175,7 @@ fn push_numbered(
     text.push_str(after)
 }
 
-/// Appends the number that bytes begin with, where they do.
+/// Appends the number that bytes begin with, if they do.
 fn push_value(text: &mut String, bytes: &[u8]) -> Result<(), AllocError>
     ensures { OnOk result (string_bytes text.new ≡ string_bytes text.old ++ value_text bytes.now) }
 {

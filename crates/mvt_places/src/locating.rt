@@ -17,7 +17,7 @@ use mvt_tile::Fault;
 use mvt_tile_value::numbers::{feature, layer, tile};
 use mvt_wire::Payload;
 
-/// What holds a fault: the input that is judged, and the layer and the feature that it names, where
+/// What holds a fault: the input that is judged, and the layer and the feature that it names, if
 /// these are there.
 #[derive(Clone, Copy, Debug)]
 pub(crate) struct Holders<'a> {
@@ -261,7 +261,7 @@ fn value_of<'a>(place: u64, layer: Option<Message<'a>>) -> Option<Message<'a>>
     Some(layer.inside(field))
 }
 
-/// The message where it has the byte at a place, or else another.
+/// The message if it has the byte at a place, or else another.
 fn innermost<'a>(place: u64, inner: Option<Message<'a>>, outer: Message<'a>) -> Message<'a>
     ensures is { message_of result
         ≡ spec.innermost place (messages_of inner.entry) (message_of outer.entry) }

@@ -58,7 +58,7 @@ impl<'a> Message<'a> {
         }
     }
 
-    /// A field of the message as a message, which has no bytes where the field has none.
+    /// A field of the message as a message, which has no bytes if the field has none.
     pub fn inside(&self, field: Field<'a>) -> Self
         requires fits { self.now.body + length self.now.payload.now < 2 ^ 64 }
         requires within { EndsBy (length self.now.payload.now) (entry_of field) }

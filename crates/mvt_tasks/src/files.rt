@@ -167,7 +167,7 @@ fn tell_one<F: Folder, W: Sink, E: Sink>(
     Ok(verdict)
 }
 
-/// What is answered for a file; nothing where it couldn't be opened or read.
+/// What is answered for a file; nothing if it couldn't be opened or read.
 fn tell_file<F: Folder>(
     alloc: Global,
     task: &Task,

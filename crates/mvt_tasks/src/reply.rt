@@ -24,7 +24,7 @@ pub struct Reply {
 ///
 /// # Errors
 ///
-/// Write, where a write or the flush fails; the writer has then taken a front of the bytes.
+/// Write, if a write or the flush fails; the writer has then taken a front of the bytes.
 fn deliver<W: Sink>(reply: Reply, writer: &mut W) -> Result<Option<Text>, Failure>
     ensures printed { IfOk result (λ line. line ≡ reply.error_line) }
     ensures put { OnOk result (PutsText (writer.new ≡ writer.old)

@@ -17,7 +17,7 @@ pub enum Verdict {
 }
 
 impl Verdict {
-    /// The verdict on a file for which this is answered; nothing where it couldn't be read.
+    /// The verdict on a file for which this is answered; nothing if it couldn't be read.
     pub fn of(reply: &Option<Reply>) -> Self
         ensures { result ≡ verdict_of reply.now }
     {

@@ -90,7 +90,7 @@ impl<V: TileVisitor> PartialTile<V> {
 }
 
 /// Takes the items in a piece after some bytes, keeps what is unfinished, and answers how many
-/// bytes were whole fields. Where no bytes stand before it, the piece isn't copied first.
+/// bytes were whole fields. If no bytes stand before it, the piece isn't copied first.
 fn feed_after<V: TileVisitor>(
     alloc: Global,
     taken: &mut Taken<V>,

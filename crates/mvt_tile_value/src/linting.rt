@@ -206,7 +206,7 @@ fn is_far_point(extent: u32, point: Point) -> bool
 }
 
 /// Whether a coordinate leaves 16 bits in 8192ths of the extent: a quotient is beyond a number
-/// exactly where the dividend isn't below the number after it times the divisor.
+/// exactly if the dividend isn't below the number after it times the divisor.
 fn is_far(extent: u32, coordinate: i32) -> bool
     ensures { result ≡ the_is_far extent coordinate }
 {

@@ -38,7 +38,7 @@ use std::alloc::{AllocError, Global};
 #[derive(Drop)]
 pub struct SurveyBuilder<'a> {
     features: u128,
-    /// What stands after their canonical bytes; `None` where the input doesn't begin with these.
+    /// What stands after their canonical bytes; `None` if the input doesn't begin with these.
     left: Option<&'a [u8]>,
     notes: Vec<Note>,
 }

@@ -10,7 +10,7 @@ use mvt_tile::{
 };
 use std::alloc::{AllocError, Global};
 
-/// The canonical bytes of a tile with one named place, or nothing where the place can't stand in a
+/// The canonical bytes of a tile with one named place, or nothing if the place can't stand in a
 /// tile.
 ///
 /// # Errors

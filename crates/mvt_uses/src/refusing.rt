@@ -27,7 +27,7 @@ pub fn first_fault<R: Source>(alloc: Global, reader: &mut R) -> Result<Option<Fa
     }
 }
 
-/// The fault that an error reports, or the error where it reports none.
+/// The fault that an error reports, or the error if it reports none.
 fn reported(error: DecodeError) -> Result<Option<Fault>, DecodeError>
     ensures fault { IfOk result (λ found. (found ≡ fault_of error) × IsSome found) }
     ensures error { IfErr result (λ error. fault_of error ≡ None) }

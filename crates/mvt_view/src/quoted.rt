@@ -65,7 +65,7 @@ fn clean_end(bytes: &[u8], from: usize) -> usize
     end
 }
 
-/// Where the blocks of clean bytes end that stand here, one behind the other.
+/// Where the blocks of clean bytes end that stand here, one after another.
 fn clean_blocks(bytes: &[u8], from: usize) -> usize
     requires { from ≤ length bytes.now }
     ensures run { RunsTo bytes.now from result }

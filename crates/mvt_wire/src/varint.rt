@@ -46,8 +46,8 @@ pub(crate) fn varint_at(bytes: &[u8]) -> Result<(u64, usize), WireCause>
     }
 }
 
-/// The same for any spelling; the size is 0 where the bytes begin with no varint. A pair is handed
-/// out in registers, so that short spellings don't pay for a place in memory.
+/// The same for any spelling; the size is 0 if the bytes begin with no varint. A pair is handed out
+/// in registers, so that short spellings don't pay for a place in memory.
 #[inline(never)]
 fn long_varint_at(bytes: &[u8]) -> (u64, usize)
     ensures found { result.1 ≢ 0 → number_at bytes.now ≡ Ok result }
