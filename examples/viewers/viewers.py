@@ -133,22 +133,28 @@ def broken_by_mapbox(tile, kinds=KINDS):
     if drawn.words:
         return f"drops the tile: `{drawn.words[0]}`"
     shown = [kind for kind, columns in zip(kinds, drawn.columns) if columns]
-    return "draws " + ", ".join(shown) if shown else "nothing"
+    return "draws " + (", ".join(shown) or "nothing")
 
 
 def broken_row(told):
     name = told.split("\t")[0]
     tile = tile_of(name)
     mended = with_extent(tile) if len(tile) < 1 << 20 else None
-    return [f"`{name}`", ogrinfo(tile), broken_by_mapbox(mended or tile)], protoc(tile)
+    return name, protoc(tile), ogrinfo(tile), broken_by_mapbox(mended or tile)
 
 
 def broken_table(rows):
-    """The table, and above it which of the tiles protoc refuses, and of which it warns."""
+    """What each program does, and with which tiles."""
     rows = list(rows)
-    refused, warned = (", ".join(row[0] for row, said in rows if said == what) for what in ("refuses", "accepts, warns"))
-    above = f"`protoc --decode` refuses {refused or 'none'}. It warns of {warned or 'none'}, and accepts the others."
-    return f"{above}\n\n" + table(["Tile", "`ogrinfo`", "Mapbox GL"], (row for row, _ in rows))
+    lines = []
+    for column, program in enumerate(("`protoc --decode`", "`ogrinfo`", "Mapbox GL"), 1):
+        by_outcome = collections.defaultdict(list)
+        for row in rows:
+            by_outcome[row[column]].append(row[0])
+        for outcome, names in sorted(by_outcome.items(), key=lambda each: -len(each[1])):
+            lines.append([program, outcome, ", ".join(names)])
+            program = ""
+    return table(["Program", "What it does", "With these tiles"], lines)
 
 
 def table(heads, rows):

@@ -34,7 +34,7 @@ def ogrinfo(tile):
     said = run.stdout.decode(errors="replace")
     marks = (("geometry", r"^  [A-Z]+ (\(|EMPTY)"), ("feature", r"OGRFeature\("), ("layer", "Layer name:"))
     shown = next((what for what, mark in marks if re.search(mark, said, re.M)), "nothing")
-    return shown + (", an error" if run.stderr.strip() else "")
+    return f"shows {shown}" + (", prints an error" if run.stderr.strip() else "")
 
 
 if __name__ == "__main__":
