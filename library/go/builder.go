@@ -20,8 +20,8 @@ import (
 //	builder.Feature(mvt.Points).ID(7).Tag("name", "Mill Pond").Tag("depth", 3.5).Point(25, 17)
 //	bytes, err := builder.Finish()
 //
-// After a call that isn't due, and after want of memory, each further call does nothing, and Finish says why. One goroutine
-// at a time may use it.
+// After a call that the builder doesn't expect, or when memory runs out, each further call does nothing, and Finish says
+// why. One goroutine at a time may use it.
 type Builder struct {
 	builder C.mvt_builder
 	err     error
@@ -34,32 +34,32 @@ func NewBuilder() *Builder {
 	return held
 }
 
-// Close gives the builder back; what it has is let go.
+// Close frees the builder and what it has.
 func (b *Builder) Close() error {
 	C.mvt_builder_free(&b.builder)
 	return nil
 }
 
-// Layer begins a layer, which ends the one before. The extent is how many units the tile is wide and high, mostly 4096.
+// Layer begins a layer, and ends the one before. The extent is how many units the tile is wide and high, mostly 4096.
 func (b *Builder) Layer(name string, extent uint32) *Builder {
 	C.mvt_builder_layer(&b.builder, lent(name), C.uint32_t(extent))
 	return b
 }
 
-// Foreign adds a layer of another version than 2, of which these are the bytes.
+// Foreign adds a layer of another version than 2, given by its bytes.
 func (b *Builder) Foreign(version uint32, bytes []byte) *Builder {
 	C.mvt_builder_foreign(&b.builder, C.uint32_t(version), C.mvt_bytes{start(bytes), C.size_t(len(bytes))})
 	return b
 }
 
-// Key is the index of a key in the layer. One that isn't there yet is added. The error is ErrOutOfTurn where no layer is begun.
+// Key is the index of a key in the layer. A new one is added. The error is ErrOutOfTurn if no layer has begun.
 func (b *Builder) Key(key string) (uint32, error) {
 	var index C.uint32_t
 	err := errorOf(C.mvt_builder_key(&b.builder, lent(key), &index), nil, nil)
 	return uint32(index), err
 }
 
-// Value is the index of a value in the layer, as Tag takes it. One that isn't there yet is added.
+// Value is the index of a value in the layer, as Tag takes it. A new one is added.
 func (b *Builder) Value(value any) (uint32, error) {
 	given, ok := valueOf(value)
 	if !ok {
@@ -70,7 +70,7 @@ func (b *Builder) Value(value any) (uint32, error) {
 	return uint32(index), err
 }
 
-// Feature begins a feature of the layer, which ends the one before.
+// Feature begins a feature of the layer, and ends the one before.
 func (b *Builder) Feature(kind Kind) *Builder {
 	C.mvt_builder_feature(&b.builder, C.mvt_kind(kind))
 	return b
@@ -123,13 +123,13 @@ func (b *Builder) Ring(exterior bool) *Builder {
 	return b
 }
 
-// Point adds a point to the line or ring that was begun last, or to a feature of points.
+// Point adds a point to the line or ring that began last, or to a feature of points.
 func (b *Builder) Point(x, y int32) *Builder {
 	C.mvt_builder_point(&b.builder, C.int32_t(x), C.int32_t(y))
 	return b
 }
 
-// Points adds points to the line or ring that was begun last, or to a feature of points. The last point of a ring is joined to
+// Points adds points to the line or ring that began last, or to a feature of points. The last point of a ring is joined to
 // its first.
 func (b *Builder) Points(points ...Point) *Builder {
 	if len(points) > 0 {
@@ -146,15 +146,15 @@ func (b *Builder) Integers(integers ...uint32) *Builder {
 	return b
 }
 
-// Drop takes the feature back that was begun last, as one whose geometry came to nothing.
+// Drop removes the feature that began last, for example if its geometry has become empty.
 func (b *Builder) Drop() *Builder {
 	C.mvt_builder_drop(&b.builder)
 	return b
 }
 
-// Finish gives the canonical bytes of the tile. The builder begins anew. The error is a *NoTile where the tile isn't valid,
-// such as a line of one point or a ring that winds the wrong way round; ErrOutOfTurn where a call wasn't due; ErrTooLarge or
-// ErrMemory.
+// Finish gives the canonical bytes of the tile. The builder begins anew. The error is a *NoTile if the tile isn't valid,
+// such as a line of one point or a ring that runs the wrong way round; ErrOutOfTurn if a call wasn't expected; ErrTooLarge
+// or ErrMemory.
 func (b *Builder) Finish() ([]byte, error) {
 	defer runtime.KeepAlive(b)
 	defer C.mvt_builder_free(&b.builder)

@@ -11,7 +11,8 @@ import (
 	"runtime"
 )
 
-// Decoder reads a tile that comes in pieces, cut anywhere. It is an io.Writer and an io.ReaderFrom, so that io.Copy fills it:
+// Decoder reads a tile that comes in pieces of any length. It is an io.Writer and an io.ReaderFrom, so that io.Copy fills
+// it:
 //
 //	decoder, err := mvt.NewDecoder()
 //	defer decoder.Close()
@@ -21,7 +22,7 @@ import (
 // One goroutine at a time may use it.
 type Decoder struct {
 	decoder C.mvt_decoder
-	// The first bytes, which tell whether what was refused looks like something else.
+	// The first bytes, which tell whether the refused bytes look like something else.
 	head []byte
 }
 
@@ -37,7 +38,7 @@ var (
 	_ io.ReaderFrom  = (*Decoder)(nil)
 )
 
-// NewDecoder is a decoder of no bytes yet.
+// NewDecoder is a decoder without bytes yet.
 func NewDecoder() (*Decoder, error) {
 	return NewDecoderWithin(math.MaxUint64)
 }
@@ -52,8 +53,8 @@ func NewDecoderWithin(most uint64) (*Decoder, error) {
 	return held, nil
 }
 
-// Write takes a piece. A fault is told as soon as no further byte can change it, as a *Refused that mostly has no name of the
-// layer and no id of the feature, since the bytes aren't kept. After an error each further call answers the same.
+// Write takes a piece. A fault is reported as soon as no further byte can change it, as a *Refused that mostly has no name
+// of the layer and no id of the feature, since the bytes aren't kept. After an error each further call answers the same.
 func (d *Decoder) Write(piece []byte) (int, error) {
 	defer runtime.KeepAlive(d)
 	if room := headLen - len(d.head); room > 0 {
@@ -106,7 +107,7 @@ func (d *Decoder) Finish() (*Tile, error) {
 	return tile, ofFront(err)
 }
 
-// Close gives the decoder back.
+// Close frees the decoder.
 func (d *Decoder) Close() error {
 	C.mvt_decoder_free(&d.decoder)
 	runtime.SetFinalizer(d, nil)

@@ -16,7 +16,7 @@ var (
 	ErrMemory = errors.New("out of memory")
 	// ErrTooLarge says that the result would be larger than 67,108,864 bytes.
 	ErrTooLarge = errors.New("the result is larger than 67108864 bytes")
-	// ErrOutOfTurn says that a builder's call isn't due, such as a point before the first feature.
+	// ErrOutOfTurn says that a builder doesn't expect a call, such as a point before the first feature.
 	ErrOutOfTurn = errors.New("a builder's call that isn't due")
 	// ErrClosed says that a decoder is finished or closed.
 	ErrClosed = errors.New("this decoder is finished or closed")
@@ -31,11 +31,11 @@ type Refused struct {
 	// Cause is the cause's number, and Name its name.
 	Cause uint32
 	Name  string
-	// LayerName and FeatureID are what the bytes tell of these, where they tell it.
+	// LayerName and FeatureID are what the bytes have of these, if they have them.
 	LayerName *string
 	FeatureID *uint64
-	// Start and End are where the bytes begin and end that the fault is about; where both are one, it stands before that
-	// byte. They are nil where the tile isn't at hand, as in a decoder.
+	// Start and End are where the bytes begin and end that the fault is about; if both are equal, something is missing
+	// before that byte. They are nil if the tile isn't at hand, as in a decoder.
 	Start, End *uint64
 	// Explanation is the fault in plain words.
 	Explanation string
@@ -63,7 +63,7 @@ func (n *NoLayer) Error() string {
 
 // NoTile is what is wrong with rows that are no valid tile.
 type NoTile struct {
-	// Layer and Feature are indices; Feature is -1 where no feature is to blame.
+	// Layer and Feature are indices; Feature is -1 if the fault is in no feature.
 	Layer, Feature int64
 	// Cause is an mvt_rows_cause of mvt.h, and Sentence says it in plain words.
 	Cause    uint32

@@ -90,7 +90,7 @@ const (
 	_ = -(unsafe.Offsetof(Point{}.Y) ^ unsafe.Offsetof(C.mvt_point{}.y))
 )
 
-// Part is a line, a ring, or the points of a feature. The last point of a ring is joined to its first.
+// Part is a line, a ring, or the points of a feature. A ring closes from its last point to its first.
 type Part struct {
 	// Exterior says that it is an exterior ring, which begins a polygon.
 	Exterior bool

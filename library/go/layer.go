@@ -16,7 +16,7 @@ type Layer struct {
 // Version is the layer's version.
 func (l Layer) Version() uint32 { return uint32(l.row.version) }
 
-// Name is the name; none where the version isn't 2.
+// Name is the name; none if the version isn't 2.
 func (l Layer) Name() string { return l.tile.text(l.row.name) }
 
 // Extent is how many units the tile is wide and high.
@@ -36,7 +36,7 @@ func (l Layer) Features() []Feature {
 	return features
 }
 
-// Keys lists the keys as the tile has them, in its order, also those that no feature names.
+// Keys lists the keys as the tile has them, in its order, also unused ones.
 func (l Layer) Keys() []string {
 	defer runtime.KeepAlive(l.tile)
 	keys := []string{}
@@ -46,7 +46,7 @@ func (l Layer) Keys() []string {
 	return keys
 }
 
-// Values lists the values as the tile has them, in its order, also those that no feature names. They are of the types that
+// Values lists the values as the tile has them, in its order, also unused ones. They are of the types that
 // Attribute has.
 func (l Layer) Values() []any {
 	defer runtime.KeepAlive(l.tile)

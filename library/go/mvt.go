@@ -10,8 +10,8 @@
 //		fmt.Println(layer.Name(), len(layer.Features()))
 //	}
 //
-// Each call takes the bytes of one uncompressed tile. Where they break a rule the error is a *Refused, and where memory runs
-// out ErrMemory; others are told with the call. Layers of another version than 2 are carried as their bytes. Any number of
+// Each call takes the bytes of one uncompressed tile. If they break a rule the error is a *Refused, and if memory runs out
+// ErrMemory; each call says which others it has. Layers of another version than 2 are carried as their bytes. Any number of
 // goroutines may call at a time, and may look at one tile.
 package mvt
 
@@ -27,7 +27,7 @@ import (
 	"unsafe"
 )
 
-// Judge says whether the bytes are a tile: nil where they are. Nothing is made of them, so it is the fastest way to know.
+// Judge says whether the bytes are a tile: nil if they are. It makes nothing, so it is the fastest check.
 func Judge(tile []byte) error {
 	var fault C.mvt_fault
 	return errorOf(C.mvt_judge(start(tile), C.size_t(len(tile)), &fault), tile, &fault)
@@ -40,8 +40,8 @@ func Rewrite(tile []byte) ([]byte, error) {
 	return made(C.mvt_rewrite(start(tile), C.size_t(len(tile)), &out, &fault), tile, &out, &fault)
 }
 
-// Extract gives the canonical bytes of the named layers of version 2, in the order of the tile. A name that stands twice
-// counts once, and no name at all gives a tile without layers. The error is a *NoLayer with the first name that no layer has,
+// Extract gives the canonical bytes of the named layers of version 2, in the order of the tile. A repeated name counts
+// once; without names the tile has no layers. The error is a *NoLayer with the first name that no layer has,
 // such as one that isn't UTF-8, and may be ErrTooLarge.
 func Extract(tile []byte, names ...string) ([]byte, error) {
 	var out C.mvt_bytes
@@ -79,8 +79,8 @@ func firstBad(names []string) int {
 	return len(names) - 1
 }
 
-// ToJSON shows a tile as JSON, in one line without a line end, as `mvt show` does. A text that many features share stands in it
-// for each.
+// ToJSON shows a tile as JSON, in one line without a line end, as `mvt show` does. A text that many features share is
+// repeated for each.
 func ToJSON(tile []byte) (string, error) {
 	var out C.mvt_bytes
 	var fault C.mvt_fault
@@ -96,7 +96,7 @@ func ToSVG(tile []byte) (string, error) {
 	return string(text), err
 }
 
-// Report says what `mvt check` says of a tile: a line with the counts of its layers and features and whether its bytes are
+// Report gives what `mvt check` prints: a line with the numbers of layers and features and whether its bytes are
 // canonical, and a line for each note.
 func Report(tile []byte) (string, error) {
 	var out C.mvt_bytes
@@ -105,7 +105,7 @@ func Report(tile []byte) (string, error) {
 	return string(text), err
 }
 
-// Lint says what `mvt lint` says of a tile: a line for each thing that viewers stumble over, though it keeps every rule.
+// Lint gives what `mvt lint` prints: a line for each thing that breaks no rule but that viewers stumble over.
 func Lint(tile []byte) (string, error) {
 	var out C.mvt_bytes
 	var fault C.mvt_fault

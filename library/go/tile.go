@@ -12,8 +12,8 @@ import (
 )
 
 // Tile is a tile that was read. Its layers, features and points are read from rows that it owns. They are given back by
-// Close, or when the collector finds that nothing leads to the tile any more. That may be late, since it doesn't count what the
-// rows take: who reads many tiles closes each.
+// Close, or when the collector finds that nothing leads to the tile any more. That may be late, since it doesn't count what
+// the rows take: who reads many tiles closes each.
 type Tile struct {
 	rows C.mvt_tile
 }
@@ -31,8 +31,8 @@ func ReadWithin(tile []byte, most uint64) (*Tile, error) {
 	return adopted(status, tile, &rows, &fault)
 }
 
-// ReadLayer reads the first layer of version 2 of a name, as a tile that has it alone. It reads only as far as this layer:
-// later bytes may be broken. The error is a *NoLayer where there is none.
+// ReadLayer reads the first layer of version 2 with a name, as a tile that has no other. It reads only as far as this layer:
+// later bytes may be broken. The error is a *NoLayer if there is none.
 func ReadLayer(tile []byte, name string) (*Tile, error) {
 	var rows C.mvt_tile
 	var fault C.mvt_fault
@@ -52,7 +52,7 @@ func adopted(status C.mvt_status, tile []byte, rows *C.mvt_tile, fault *C.mvt_fa
 	return held, nil
 }
 
-// Close gives the rows back. The tile has no layers afterwards, and those that it handed out may not be asked any more.
+// Close frees the rows. The tile has no layers afterwards, and those that it handed out may not be asked any more.
 func (t *Tile) Close() error {
 	C.mvt_tile_free(&t.rows)
 	runtime.SetFinalizer(t, nil)

@@ -8,7 +8,7 @@
     [('places', 3), ('roads', 2), ('water', 2)]
 
 A layer of another version than 2 is carried as bytes, and has no name. A tile that breaks a rule raises `Refused`, which
-tells the layer, the feature, the place and the cause of the first broken one. Each call takes the bytes of one
+says the layer, the feature, the place and the cause of the first broken rule. Each call takes the bytes of one
 uncompressed tile. Threads may call at the same time.
 """
 

@@ -5,7 +5,7 @@ from typing import Optional
 
 
 class MvtError(Exception):
-    """Why a call made nothing, but for want of memory, which is MemoryError."""
+    """Why a call made nothing, except out of memory, which is MemoryError."""
 
 
 class Refused(MvtError):
@@ -13,9 +13,9 @@ class Refused(MvtError):
 
     `layer` and `feature` are indices, or None for a fault outside a layer or a feature. `at` is an offset in the
     tile, or an index in the tags or integers of the feature. `cause` is the cause's number and `name` its name.
-    `layer_name` and `feature_id` are None where there is none, or none can be told. The fault is about the bytes of the
-    tile from `start` up to `end`, or stands before the byte `start` where both are one; both are None where the tile
-    isn't at hand, as in a decoder. `explanation` says it in words.
+    `layer_name` and `feature_id` are None if the bytes don't have them. The fault is about the bytes from `start` up to
+    `end`; if both are equal, something is missing before that byte. Both are None if the tile isn't at hand, as in a
+    decoder. `explanation` says the fault in words.
     """
 
     def __init__(
@@ -59,7 +59,7 @@ class TooLarge(MvtError):
 
 
 class NoLayer(MvtError, KeyError):
-    """A name that no layer of version 2 has: `name`."""
+    """No layer of version 2 has this name: `name`."""
 
     def __init__(self, name: str) -> None:
         super().__init__(name)
@@ -72,8 +72,8 @@ class NoLayer(MvtError, KeyError):
 class NoTile(MvtError):
     """What was to be written is no valid tile.
 
-    Where rows were to be written, `layer` and `feature` are the indices of the first that is wrong (`feature` is None
-    where no feature is to blame), and `cause` is the number of the cause (`mvt_rows_cause` of mvt.h).
+    For rows, `layer` and `feature` are the indices of the first fault (`feature` is None if the fault is in no feature),
+    and `cause` is its number (`mvt_rows_cause` of mvt.h).
     """
 
     layer: Optional[int] = None
@@ -82,7 +82,7 @@ class NoTile(MvtError):
 
 
 class OutOfRange(NoTile, OverflowError):
-    """A number that a tile has no room for."""
+    """A number that doesn't fit into a tile."""
 
 
 def _index(index: Optional[int]) -> str:

@@ -127,7 +127,7 @@ static PyMethodDef METHODS[] = {
 
 static const char DOC[] =
     "Decoder(most=18446744073709551615)\n--\n\n"
-    "A tile that comes in pieces, cut anywhere. Where threads share one, a call waits until another's is done. A call\n"
+    "A tile that comes in pieces of any length. Where threads share one, a call waits until another's is done. A call\n"
     "raises MemoryError where the lists of rows would have more bytes than `most`.";
 
 static PyMemberDef MEMBERS[] = {WEAK_MEMBER(decoder), {NULL, 0, 0, 0, NULL}};

@@ -351,7 +351,7 @@ PyMethodDef READING_CALLS[] = {
      "where the lists of rows would have more bytes than `most`."},
     {"read_layer", WITH_WORDS(read_layer),
      "read_layer($module, /, tile, name)\n--\n\n"
-     "The first layer of version 2 of this name, as plain objects. Nothing is then known of the rest of the tile.\n\n"
+     "The first layer of version 2 with this name, as plain objects. Reads only as far as this layer.\n\n"
      "Raises NoLayer where no layer has the name, and Refused."},
     {NULL, NULL, 0, NULL},
 };

@@ -19,7 +19,8 @@ use crate::{sys, Bytes, Error, Kind, Point, Value};
 /// # Ok::<(), mvt::Error>(())
 /// ```
 ///
-/// After a call that isn't due, and after want of memory, each further call does nothing, and [`finish`](Self::finish) says why.
+/// After a call that the builder doesn't expect, or when memory runs out, each further call does nothing, and
+/// [`finish`](Self::finish) says why.
 pub struct Builder(sys::Builder);
 
 // SAFETY: what it holds is this value's alone, and no call takes it shared.
@@ -40,21 +41,21 @@ impl Builder {
         })
     }
 
-    /// Begins a layer, which ends the one before. The extent is how many units the tile is wide and high, mostly 4096.
+    /// Begins a layer, and ends the one before. The extent is how many units the tile is wide and high, mostly 4096.
     pub fn layer(&mut self, name: &str, extent: u32) -> &mut Self {
         // SAFETY: the name is lent for the call.
         unsafe { sys::mvt_builder_layer(&mut self.0, lent(name.as_bytes()), extent) };
         self
     }
 
-    /// Adds a layer of another version than 2, of which these are the bytes.
+    /// Adds a layer of another version than 2, given by its bytes.
     pub fn foreign(&mut self, version: u32, bytes: &[u8]) -> &mut Self {
         // SAFETY: the bytes are lent for the call.
         unsafe { sys::mvt_builder_foreign(&mut self.0, version, lent(bytes)) };
         self
     }
 
-    /// The index of a key in the layer. One that isn't there yet is added.
+    /// The index of a key in the layer. A new one is added.
     ///
     /// # Errors
     ///
@@ -66,7 +67,7 @@ impl Builder {
         index_of(status, index)
     }
 
-    /// The index of a value in the layer. One that isn't there yet is added.
+    /// The index of a value in the layer. A new one is added.
     ///
     /// # Errors
     ///
@@ -79,7 +80,7 @@ impl Builder {
         index_of(status, index)
     }
 
-    /// Begins a feature of the layer, which ends the one before.
+    /// Begins a feature of the layer, and ends the one before.
     pub fn feature(&mut self, kind: Kind) -> &mut Self {
         // SAFETY: the builder is this value's alone.
         unsafe { sys::mvt_builder_feature(&mut self.0, kind as u32) };
@@ -121,12 +122,12 @@ impl Builder {
         self
     }
 
-    /// Adds a point to the line or ring that was begun last, or to a feature of points.
+    /// Adds a point to the line or ring that began last, or to a feature of points.
     pub fn point(&mut self, x: i32, y: i32) -> &mut Self {
         self.points(&[Point::new(x, y)])
     }
 
-    /// Adds points. The last point of a ring is joined to its first.
+    /// Adds points. A ring closes from its last point to its first.
     pub fn points(&mut self, points: &[Point]) -> &mut Self {
         // SAFETY: the points are lent for the call.
         unsafe { sys::mvt_builder_points(&mut self.0, points.as_ptr(), points.len()) };
@@ -140,7 +141,7 @@ impl Builder {
         self
     }
 
-    /// Takes the feature back that was begun last, as one whose geometry came to nothing.
+    /// Removes the feature that began last, for example if its geometry has become empty.
     pub fn drop_feature(&mut self) -> &mut Self {
         // SAFETY: the builder is this value's alone.
         unsafe { sys::mvt_builder_drop(&mut self.0) };
@@ -151,7 +152,7 @@ impl Builder {
     ///
     /// # Errors
     ///
-    /// [`Error::NoTile`] where the tile isn't valid, such as a line of one point or a ring that winds the wrong way round;
+    /// [`Error::NoTile`] if the tile isn't valid, such as a line of one point or a ring that runs the wrong way round;
     /// [`Error::OutOfTurn`], [`Error::TooLarge`], [`Error::OutOfMemory`].
     pub fn finish(&mut self) -> Result<Bytes, Error> {
         let mut rows = no_rows();

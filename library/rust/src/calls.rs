@@ -37,7 +37,7 @@ fn made(
     }
 }
 
-/// Whether the bytes are a tile. Nothing is made of them, so this is the fastest way to know.
+/// Whether the bytes are a tile. Makes nothing, so this is the fastest check.
 ///
 /// ```
 /// match mvt::judge(&[0x1a, 2, 0x78, 2]) {
@@ -84,7 +84,7 @@ pub fn read(bytes: &[u8]) -> Result<Tile, Error> {
 ///
 /// # Errors
 ///
-/// [`Error::Refused`], and [`Error::OutOfMemory`], also where the bound is reached.
+/// [`Error::Refused`], and [`Error::OutOfMemory`], also if the bound is reached.
 pub fn read_within(bytes: &[u8], most: u64) -> Result<Tile, Error> {
     // SAFETY: as in `read`.
     Tile::made(bytes, |out, fault| unsafe {
@@ -92,8 +92,8 @@ pub fn read_within(bytes: &[u8], most: u64) -> Result<Tile, Error> {
     })
 }
 
-/// The first layer of version 2 of this name, as a tile that has it alone. It reads only as far as this layer: later bytes
-/// may be broken.
+/// The first layer of version 2 with this name, as a tile that has no other layer. Reads only as far as this layer: later
+/// bytes may be broken.
 ///
 /// # Errors
 ///
@@ -132,8 +132,8 @@ pub fn rewrite(bytes: &[u8]) -> Result<Bytes, Error> {
     })
 }
 
-/// The canonical bytes of the named layers of version 2, in the order of the tile. A name that stands twice counts once, and
-/// no name at all gives a tile without layers.
+/// The canonical bytes of the named layers of version 2, in the order of the tile. A repeated name counts once;
+/// without names the tile has no layers.
 ///
 /// ```
 /// use mvt::Error;
@@ -174,7 +174,8 @@ pub fn extract(bytes: &[u8], names: &[&str]) -> Result<Bytes, Error> {
     }
 }
 
-/// A tile as JSON, in one line without a line end, as `mvt show` has it. A text that many features share stands in it for each.
+/// A tile as JSON, in one line without a line end, as `mvt show` prints it. A text that many features share is repeated for
+/// each.
 ///
 /// # Errors
 ///
@@ -187,7 +188,7 @@ pub fn to_json(bytes: &[u8]) -> Result<String, Error> {
     Ok(text.into_text())
 }
 
-/// A picture of a tile in SVG, as `mvt draw` has it.
+/// A picture of a tile in SVG, as `mvt draw` prints it.
 ///
 /// # Errors
 ///
@@ -200,7 +201,7 @@ pub fn to_svg(bytes: &[u8]) -> Result<String, Error> {
     Ok(text.into_text())
 }
 
-/// What `mvt check` says of a tile: a line with the counts of its layers and features and whether its bytes are canonical,
+/// What `mvt check` prints: a line with the numbers of layers and features and whether its bytes are canonical,
 /// and a line for each note.
 ///
 /// # Errors
@@ -214,7 +215,7 @@ pub fn report(bytes: &[u8]) -> Result<String, Error> {
     Ok(text.into_text())
 }
 
-/// What `mvt lint` says of a tile: a line for each thing that viewers stumble over, though it keeps every rule.
+/// What `mvt lint` prints: a line for each thing that breaks no rule but that viewers stumble over.
 ///
 /// # Errors
 ///

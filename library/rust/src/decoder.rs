@@ -5,7 +5,7 @@ use crate::error::error_of;
 use crate::{sys, Error, Tile};
 use std::io;
 
-/// Reads a tile that comes in pieces, cut anywhere.
+/// Reads a tile that comes in pieces of any length.
 ///
 /// ```
 /// let tile = [0x1a, 0x05, 0x78, 0x02, 0x0a, 0x01, b'a'];
@@ -20,7 +20,7 @@ use std::io;
 /// It is a [`Write`](io::Write) too, so that `io::copy` fills it.
 pub struct Decoder {
     held: sys::Decoder,
-    /// The first bytes, which tell whether what was refused looks like something else.
+    /// The first bytes, which tell whether the refused bytes look like something else.
     head: Vec<u8>,
 }
 
@@ -32,7 +32,7 @@ unsafe impl Send for Decoder {}
 unsafe impl Sync for Decoder {}
 
 impl Decoder {
-    /// A decoder of no bytes yet.
+    /// A decoder without bytes yet.
     ///
     /// # Errors
     ///
@@ -59,8 +59,8 @@ impl Decoder {
         }
     }
 
-    /// Takes a piece. A fault is told as soon as no further byte can change it. After an error each further call answers the
-    /// same.
+    /// Takes a piece. A fault is reported as soon as no further byte can change it. After an error each further call answers
+    /// the same.
     ///
     /// # Errors
     ///

@@ -1,4 +1,4 @@
-//! What the calls answer where they made nothing.
+//! The errors of the calls.
 
 use crate::calls::no_bytes;
 use crate::output::list;
@@ -22,7 +22,7 @@ pub enum Error {
     NoLayer(String),
     /// What was to be written is no valid tile, and what is wrong with it first.
     NoTile(RowsFault),
-    /// A call of a builder that isn't due, such as a point before the first feature.
+    /// A call of a builder that isn't expected, such as a point before the first feature.
     OutOfTurn,
     /// A decoder that is finished.
     NoDecoder,
@@ -43,12 +43,12 @@ pub struct Refused {
     pub cause: u32,
     /// The cause's name.
     pub name: String,
-    /// The layer's name, where the bytes tell one.
+    /// The layer's name, if the bytes have one.
     pub layer_name: Option<String>,
-    /// The feature's id, where the bytes tell one.
+    /// The feature's id, if the bytes have one.
     pub feature_id: Option<u64>,
-    /// The bytes that the fault is about, or an empty range where it stands before a byte; `None` where the tile isn't at
-    /// hand, as in a decoder.
+    /// The bytes that the fault is about, or an empty range if something is missing before a byte; `None` if the tile isn't
+    /// at hand, as in a decoder.
     pub bytes: Option<Range<u64>>,
     /// The fault in plain words.
     pub explanation: String,
@@ -59,7 +59,7 @@ pub struct Refused {
 pub struct RowsFault {
     /// The index of the layer.
     pub layer: u64,
-    /// The index of the feature in its layer; `None` where no feature is to blame.
+    /// The index of the feature in its layer; `None` if the fault is in no feature.
     pub feature: Option<u64>,
     /// The cause's number, an `mvt_rows_cause` of `mvt.h`.
     pub cause: u32,

@@ -38,7 +38,7 @@ pub struct Feature<'t> {
 }
 
 impl<'t> Feature<'t> {
-    /// The id, where there is one.
+    /// The id, if there is one.
     pub fn id(&self) -> Option<u64> {
         (self.row.has_id == 1).then_some(self.row.id)
     }

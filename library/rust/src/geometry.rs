@@ -46,7 +46,7 @@ impl<'t> Iterator for Parts<'t> {
 
 impl ExactSizeIterator for Parts<'_> {}
 
-/// A line, a ring, or the points of a feature. The last point of a ring is joined to its first.
+/// A line, a ring, or the points of a feature. A ring closes from its last point to its first.
 #[derive(Clone, Copy, Debug, PartialEq, Eq)]
 pub struct Part<'t> {
     /// Whether it is an exterior ring, which begins a polygon.

@@ -43,7 +43,7 @@ impl<'t> Layer<'t> {
         self.row.version
     }
 
-    /// The name; none where the version isn't 2.
+    /// The name; none if the version isn't 2.
     pub fn name(&self) -> &'t str {
         self.tile.text(self.row.name)
     }
@@ -64,13 +64,13 @@ impl<'t> Layer<'t> {
         }
     }
 
-    /// The keys as the tile has them, in its order, also those that no feature names.
+    /// The keys as the tile has them, in its order, also unused ones.
     pub fn keys(&self) -> impl ExactSizeIterator<Item = &'t str> {
         let tile = self.tile;
         self.key_spans().iter().map(move |span| tile.text(*span))
     }
 
-    /// The values as the tile has them, in its order, also those that no feature names.
+    /// The values as the tile has them, in its order, also unused ones.
     pub fn values(&self) -> impl ExactSizeIterator<Item = Value<'t>> {
         let tile = self.tile;
         self.value_rows()
