@@ -150,7 +150,7 @@ fn allows(role: RingRole, area: i128) -> bool
     }
 }
 
-/// Appends a line of at least so many points, or a ring without its end.
+/// Appends a line of at least this many points, or a ring without its end.
 fn append_stroke<P: Position, N: NumberList>(
     list: &mut N,
     from: Point,

@@ -133,8 +133,8 @@ fn may_stand(is_first: bool, area: i128) -> bool
     !is_first || area >= 0
 }
 
-/// How many points a line has that was told, the last of them, twice the area of the ring that it
-/// would be, whether that ring's last point is its first, and the bytes behind it.
+/// How many points a line has that was passed on, the last of them, twice the area of the ring that
+/// it would be, whether that ring's last point is its first, and the bytes after it.
 #[derive(Clone, Copy, Debug)]
 struct Line<'a> {
     points: usize,
@@ -171,8 +171,8 @@ fn tell_ring<'a, V: GeometryVisitor>(
     Ok(Some(Line { after, ..ring }))
 }
 
-/// Tells the line in front that has at least so many points: one pair after a MoveTo, and those
-/// after a LineTo.
+/// Passes on the line in front that has at least this many points: one pair after a MoveTo, and
+/// those after a LineTo.
 #[inline(always)]
 fn tell_line<'a, V: GeometryVisitor>(
     visitor: &mut V,
@@ -213,7 +213,7 @@ struct Head<'a> {
     after: &'a [u8],
 }
 
-/// The commands in front of a line that has at least so many points.
+/// The commands in front of a line that has at least this many points.
 #[inline(always)]
 fn line_front<'a>(from: Point, least: usize, bytes: &'a [u8]) -> Option<Head<'a>>
     ensures head { IfSome result (λ head.
@@ -233,7 +233,7 @@ fn line_front<'a>(from: Point, least: usize, bytes: &'a [u8]) -> Option<Head<'a>
     })
 }
 
-/// The count of this command in front, and the bytes behind it.
+/// The count of this command in front, and the bytes after it.
 #[inline(always)]
 fn command_front(command: Command, bytes: &[u8]) -> Option<(usize, &[u8])>
     ensures spelled { IfSome result (λ found.
@@ -248,7 +248,8 @@ fn command_front(command: Command, bytes: &[u8]) -> Option<(usize, &[u8])>
     Some((Command::count_in(integer) as usize, after))
 }
 
-/// The end of a path that was told, what its edges add to twice an area, and the bytes behind it.
+/// The end of a path that was passed on, what its edges add to twice an area, and the bytes after
+/// it.
 #[derive(Clone, Copy, Debug)]
 struct Path<'a> {
     end: Point,
@@ -256,7 +257,7 @@ struct Path<'a> {
     after: &'a [u8],
 }
 
-/// Tells the points that so many pairs in front lead to.
+/// Passes on the points that this many pairs in front lead to.
 #[inline(always)]
 fn tell_path<'a, V: GeometryVisitor>(
     visitor: &mut V,
@@ -295,7 +296,7 @@ fn tell_path<'a, V: GeometryVisitor>(
     }))
 }
 
-/// The point that the pair in front leads to, and the bytes behind it.
+/// The point that the pair in front leads to, and the bytes after it.
 #[inline(always)]
 fn point_front(from: Point, is_line: bool, bytes: &[u8]) -> Option<(Point, &[u8])>
     ensures pair { IfSome result (λ found. IsPair is_line from found.0 bytes.now found.1.now) }

@@ -44,7 +44,7 @@ pub trait GeometryVisitor: Drop {
             → has_parts start parts begun self.old
             → OnOk result (has_parts start parts (begun ++ point ∷ []) self.new) };
 
-    /// Ends a part that has so many points, and tells of a ring what is known of it. An exterior
+    /// Ends a part that has this many points, and tells of a ring what is known of it. An exterior
     /// one begins a polygon.
     fn end_part(&mut self, points: usize, ring: Option<Ring>) -> Result<(), AllocError>
         ensures { (start : Self) (parts : List Part) (part : Part)

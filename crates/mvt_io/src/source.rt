@@ -25,7 +25,7 @@ pub trait Source {
         ensures faults { (state self.new).faults ≡ after_call result (state self.old).faults };
 }
 
-/// How many reads gave nothing, after one that gave so many bytes.
+/// How many reads gave nothing, after one that gave this many bytes.
 pub(crate) fn count_empty(empty: u64, given: usize) -> u64
     ensures { result ≡ after_reading (Ok given) empty }
 {

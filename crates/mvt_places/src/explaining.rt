@@ -87,7 +87,7 @@ fn push_name(alloc: Global, text: &mut String, name: Option<&[u8]>) -> Result<()
     push_quoted(text, &String::from_utf8_lossy(alloc, name)?)
 }
 
-/// Appends a number behind a word, if there is one.
+/// Appends a number after a word, if there is one.
 fn push_told(text: &mut String, word: &str, number: Option<u64>) -> Result<(), AllocError>
     ensures { OnOk result (string_bytes text.new
         ≡ string_bytes text.old ++ told word.now number) }
@@ -255,7 +255,7 @@ fn push_rows(text: &mut String, input: &[u8], span: Span) -> Result<(), AllocErr
     push_row(text, span, middle, &input[middle..to], end_text)
 }
 
-/// What stands behind the last byte that is shown: whether the place is empty there, or goes on.
+/// What stands after the last byte that is shown: whether the place is empty there, or goes on.
 fn end_text(span: Span, to: u64) -> &'static str
     ensures { result.now ≡ spec.end_text span to }
 {

@@ -192,7 +192,7 @@ impl<'a> Holders<'a> {
     }
 }
 
-/// Where a number of a message's fields is spelled, or the place behind them if there is none; no
+/// Where a number of a message's fields is spelled, or the place after them if there is none; no
 /// further than this end.
 fn number_span(message: &Message<'_>, number: u32, pick: Pick, end: u64) -> Span
     requires { Ends end (message_of message.now) }
@@ -216,7 +216,7 @@ fn number_span(message: &Message<'_>, number: u32, pick: Pick, end: u64) -> Span
     }
 }
 
-/// The place behind the last number of a message; without one behind the last field of the numbers;
+/// The place after the last number of a message; without one after the last field of the numbers;
 /// without one the message's own field.
 fn behind(message: &Message<'_>, number: u32, last: Option<Span>, end: u64) -> Span
     requires ends { Ends end (message_of message.now) }

@@ -4,7 +4,7 @@ ghost use Rattle.mvt_places.specs.Places.{target_of as target_for};
 
 use mvt_tile::Cause;
 
-/// What a fault's `at` tells, by its cause.
+/// What a fault's `at` means, by its cause.
 #[derive(Clone, Copy, Debug, PartialEq, Eq)]
 pub(crate) enum Target {
     /// The offset of a field.
@@ -28,11 +28,11 @@ pub(crate) enum Target {
 pub(crate) enum Pick {
     Nth(u64),
     Last,
-    /// What is behind the last.
+    /// What is after the last.
     Behind,
 }
 
-/// What the place of a cause tells.
+/// What the place of a cause means.
 pub(crate) fn target_of(cause: Cause) -> Target
     ensures { result ≡ target_for cause }
 {

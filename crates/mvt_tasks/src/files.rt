@@ -230,7 +230,7 @@ fn written(alloc: Global, name: &str, reply: &Option<Reply>) -> Result<Vec<u8>, 
     }
 }
 
-/// What is told of a file on the error stream.
+/// What the error stream says of a file.
 fn printed(alloc: Global, name: &str, reply: &Option<Reply>) -> Result<Vec<u8>, Failure>
     ensures bytes { IfOk result (λ bytes. bytes.items ≡ marked_text name.now
         (line_printed reply.now)) }

@@ -205,7 +205,7 @@ fn take_field<V: TileVisitor>(
     }
 }
 
-/// An error of a payload, as the tile tells it.
+/// An error of a payload, as an error of the tile.
 pub(crate) fn in_layer(index: u32, error: MessageError) -> DecodeError
     ensures { result ≡ reported_in index error }
 {

@@ -46,7 +46,7 @@ fn begins_payload(payload: &[u8]) -> bool
     }
 }
 
-/// The first field of bytes, and what stands behind it.
+/// The first field of bytes, and what stands after it.
 #[derive(Clone, Copy, Debug)]
 struct Front<'a> {
     number: u32,
@@ -87,7 +87,7 @@ fn layer_of<'a>(front: Option<Front<'a>>) -> Option<&'a [u8]>
     }
 }
 
-/// What stands behind version 2 of a layer.
+/// What stands after version 2 of a layer.
 fn behind_version<'a>(front: Option<Front<'a>>) -> Option<&'a [u8]>
     ensures { (more : List ℕ) → HoldsField (plain VERSION (varint 2)) more front.entry
         → IsBehind more result }
@@ -104,7 +104,7 @@ fn behind_version<'a>(front: Option<Front<'a>>) -> Option<&'a [u8]>
     }
 }
 
-/// What stands behind the name of a layer.
+/// What stands after the name of a layer.
 fn behind_name<'a>(front: Option<Front<'a>>) -> Option<&'a [u8]>
     ensures { (name more : List ℕ) → HoldsField (plain NAME (in_bytes name)) more front.entry
         → IsBehind more result }

@@ -10,8 +10,8 @@ use mvt_base::LIMIT;
 use mvt_wire::put_field_head;
 use std::alloc::{AllocError, Global};
 
-/// What stands behind one item more, whose canonical payload is a head, the fields of features and
-/// a tail.
+/// What stands after one item more, whose canonical payload is a head, the fields of features and a
+/// tail.
 pub(crate) fn after_item<'b>(
     alloc: Global,
     head: &[u8],
@@ -38,7 +38,7 @@ fn len_of(head: &[u8], features: &[u8], tail: &[u8]) -> Result<usize, AllocError
     head.len().checked_add(left).ok_or(AllocError)
 }
 
-/// What stands behind some bytes more.
+/// What stands after some bytes more.
 fn after<'b>(part: &[u8], left: Option<&'b [u8]>) -> Option<&'b [u8]>
     ensures { (input front : List ℕ) → IsAfter input front left.entry
         → IsAfter input (front ++ part.now) result }

@@ -122,7 +122,7 @@ impl RewriteVisitor for LayerNotes {
     }
 }
 
-/// The rings of the next feature are noted as they are told.
+/// The rings of the next feature are noted as they come.
 impl GeometryVisitor for LayerNotes {
     ghost use Rattle.std.specs.Prelude.{◌≡◌};
     ghost use Rattle.std.proofs.Common.{refl, sym, add-zero, append-nil};

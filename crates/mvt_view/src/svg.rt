@@ -89,7 +89,7 @@ fn push_layer(
     Ok(())
 }
 
-/// Appends the tag of a square of so many units.
+/// Appends the tag of a square of this many units.
 #[tactic(auto, unfolding(crate::specs::Svg::square_svg))]
 fn push_square(text: &mut String, index: usize, extent: u32) -> Result<(), AllocError>
     ensures { OnOk result (string_bytes text.new
