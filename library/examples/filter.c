@@ -2,9 +2,9 @@
  *
  *     filter < tiles > good
  *
- * Each tile, uncompressed, stands behind its length: four bytes, the highest first. A good tile passes as it is. In the
- * place of a broken one an empty tile passes, and a line on standard error says which it was and why. The server keeps
- * one filter running, and gets its answer for each tile at once. */
+ * Each tile, uncompressed, follows its length: four bytes, the highest first. A good tile passes as it is. For a broken
+ * one an empty tile passes, and a line on standard error says which it was and why. The server keeps one filter running,
+ * and gets the answer for each tile at once. */
 #include <mvt.h>
 
 #include <inttypes.h>

@@ -1,9 +1,9 @@
 #!/usr/bin/env python3
 """Makes a tile of points: points.py LAYER Z X Y < points.csv > tile.mvt
 
-The table has a first line with the names of its columns. `lon` and `lat` are the position, in degrees; `id`, where it is
-there, is the feature's id; each other column that isn't empty is an attribute, a number where it reads as one. The tile
-gets the points that lie in it.
+The table has a first line with the names of its columns. `lon` and `lat` are the position in degrees, and `id`, if there is
+one, is the feature's id. Every other column that isn't empty is an attribute: a number if it reads as one, else a text.
+The tile gets the points that lie in it.
 """
 
 import csv
