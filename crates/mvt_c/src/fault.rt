@@ -6,7 +6,7 @@ ghost use Rattle.mvt_c.specs.Places.{IsGiven};
 use crate::lent::Bytes;
 use mvt_tile::Fault as TileFault;
 
-/// The first broken rule of a tile. An index is -1 where there is none.
+/// The first broken rule of a tile. An index is -1 if there is none.
 #[repr(C)]
 #[derive(Clone, Copy, Debug)]
 pub struct Fault {

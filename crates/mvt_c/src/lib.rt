@@ -1,8 +1,7 @@
 //! The codec for C and the languages that call C: each call of `mvt.h`, as a static library.
 //!
-//! A call answers a status, and hands its result out through a parameter, which it leaves as it is
-//! where the status isn't 0. What it hands out is memory of C's `malloc`, and lasts until C frees
-//! it.
+//! A call answers a status, and writes its result to a parameter only if the status is 0. The
+//! result is memory of C's `malloc`, and lasts until C frees it.
 #![tactic(auto)]
 
 mod building;

@@ -11,7 +11,7 @@ use std::str;
 ///
 /// # Errors
 ///
-/// A name that isn't UTF-8; want of memory.
+/// A name that isn't UTF-8; out of memory.
 pub(crate) fn read_names(alloc: Global, names: &[Bytes]) -> Result<Vec<String>, Refusal>
     ensures texts { IfOk result (λ read. map string_bytes read.items ≡ texts_of names.now) }
     ensures bad { IfErr result (HoldsNoText names.now) }

@@ -85,7 +85,7 @@ fn read(alloc: Global, bytes: &[u8], most: u64) -> Result<Table, Refusal>
     Ok(read_rows_within(alloc, bytes, most)?)
 }
 
-/// The first layer of a name as rows (`mvt_read_layer`).
+/// The first layer with a name as rows (`mvt_read_layer`).
 #[unsafe(no_mangle)]
 pub extern "C" fn mvt_read_named(
     alloc: Global,

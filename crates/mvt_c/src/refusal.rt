@@ -107,7 +107,7 @@ pub(crate) fn hand_out(made: Result<Vec<u8>, Refusal>, out: &mut Bytes, fault: &
     }
 }
 
-/// Tells the fault, where there is one. Answers the status.
+/// Tells the fault, if there is one. Answers the status.
 pub(crate) fn report(refusal: Refusal, fault: &mut Fault) -> u32
     ensures status { result ≡ status_of_refusal refusal }
     ensures fault { ReportsFault refusal fault.old fault.new }

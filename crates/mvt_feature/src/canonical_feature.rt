@@ -95,7 +95,7 @@ fn is_double(number: u32, bits: u64) -> bool
     number == value::DOUBLE
 }
 
-/// The same of a varint. A bool is 0 or 1.
+/// The same for a varint. A bool is 0 or 1.
 fn is_number(number: u32, content: u64) -> bool
     ensures { IsTrue result → (value : AValue) × ValidValue value
         × (field_of_value value ≡ plain number (varint content)) }
@@ -224,17 +224,17 @@ fn are_short(bytes: &[u8]) -> bool
 #[derive(Clone, Copy, Debug)]
 pub struct CanonicalFeature {
     pub fields: FeatureFields,
-    /// How many keys and values are used behind it.
+    /// How many keys and values are used after it.
     pub used: (usize, usize),
 }
 
-/// Judges whether a payload is the canonical one of a feature in a layer with these keys and this
-/// number of values, where so many of them are used by earlier features and each that is new is the
-/// next. A visitor is told its geometry on the way.
+/// Judges whether a payload is the canonical one of a feature, in a layer with these keys and this
+/// number of values, if earlier features use this many of them and each new one is the next. The
+/// geometry is passed to a visitor on the way.
 ///
 /// # Errors
 ///
-/// Where it isn't, or isn't known to be. The visitor may then have been told some parts.
+/// If it isn't, or isn't known to be. The visitor may then have received some parts.
 pub fn judge_canonical<V: GeometryVisitor>(
     alloc: Global,
     visitor: &mut V,
@@ -257,7 +257,7 @@ pub fn judge_canonical<V: GeometryVisitor>(
     }
 }
 
-/// The same of a payload that has these parts.
+/// The same for a payload that has these parts.
 fn judge_parts<V: GeometryVisitor>(
     alloc: Global,
     visitor: &mut V,

@@ -65,7 +65,7 @@ pub enum Cause {
 }
 
 impl Cause {
-    /// The number by which it is told.
+    /// Its number.
     pub fn number(&self) -> u32
         ensures { result ≡ cause_number self.now }
     {
@@ -98,7 +98,7 @@ impl Cause {
         }
     }
 
-    /// The name by which it is told.
+    /// Its name.
     pub fn name(&self) -> &'static str
         ensures { result.now ≡ cause_name self.now }
     {

@@ -22,7 +22,7 @@ use std::alloc::AllocError;
 ///
 /// # Errors
 ///
-/// When memory runs out; the list is then as it was or a longer one.
+/// When memory runs out; the list is then unchanged or longer.
 pub fn append_drawn_feature(
     id: Option<u64>,
     tags: &[u32],

@@ -46,7 +46,7 @@ pub fn read_feature(
 
 /// The feature of a payload, with a layer's keys and room that are used again for the next feature.
 ///
-/// So a row of features looks at the keys once, and needs no new lists for tags and integers.
+/// So a row of features groups the keys once, and needs no new lists for tags and integers.
 ///
 /// # Errors
 ///
@@ -76,10 +76,10 @@ pub fn read_feature_in(
     })
 }
 
-/// Tells a visitor the geometry of a feature, in a layer with these keys and this number of values,
-/// and answers what else its fields say.
+/// Passes the geometry of a feature, in a layer with these keys and this number of values, to a
+/// visitor, and answers what else its fields say.
 ///
-/// The tags are left in the scratch, as they stand. All is judged before anything is told.
+/// The tags are left in the scratch, as they stand. Everything is judged first.
 ///
 /// # Errors
 ///
@@ -114,7 +114,7 @@ pub fn draw_feature<V: GeometryVisitor>(
 
 /// Whether a payload is a feature, in a layer with these keys and this number of values.
 ///
-/// Nothing is built, and the scratch says nothing of the feature afterwards.
+/// Nothing is built, and what the scratch holds afterwards means nothing.
 ///
 /// # Errors
 ///

@@ -28,7 +28,7 @@ use std::alloc::{AllocError, Global};
 ///
 /// # Errors
 ///
-/// As `read_feature`, and the list is then as it was or a longer one.
+/// As `read_feature`, and the list is then unchanged or longer.
 pub fn rewrite_feature(
     alloc: Global,
     payload: &[u8],

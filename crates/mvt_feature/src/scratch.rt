@@ -16,7 +16,7 @@ use std::alloc::{AllocError, Global};
 /// }
 /// ```
 ///
-/// What it holds between two calls says nothing; after an error it can be used again.
+/// What it holds between two calls means nothing; after an error it can be used again.
 #[derive(Debug, Drop)]
 pub struct Scratch {
     pub(crate) tags: Vec<u32>,
@@ -52,8 +52,8 @@ impl Scratch {
         &self.tags
     }
 
-    /// The integers of the feature that was read last. Of one that is judged straight from its
-    /// bytes nothing is here.
+    /// The integers of the feature that was read last; none of one that was judged straight from
+    /// its bytes.
     pub fn integers(&self) -> &[u32]
         ensures { result.now ≡ integers_of self.now }
     {

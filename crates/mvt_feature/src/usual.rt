@@ -1,5 +1,5 @@
 //! Features whose integers are packed in one field, as most programs write them: their geometry is
-//! told straight from its bytes, without a list of integers.
+//! passed to a visitor straight from its bytes, without a list of integers.
 ghost use Rattle.std.specs.Prelude.{◌≡◌, ◌≢◌, ◌+◌, ◌^◌, ◌<◌, ℕ, List, [], ◌∷◌, ◌++◌, length, None, IfOk, IfErr, IfSome, IfNone, IsOk, OnOk, OnSome};
 ghost use Rattle.mvt_base.specs.Reports.{Reports};
 ghost use Rattle.mvt_base.specs.Rules.{each, first};
@@ -27,12 +27,12 @@ use mvt_geometry::{GeometryVisitor, Ignore, Kind, draw_packed};
 use mvt_wire::{Field, Fields, Payload, WireFault};
 use std::alloc::{AllocError, Global};
 
-/// Tells a visitor the geometry of a feature whose integers are packed in one field. It is judged
-/// as it is told; the tags are left in the scratch.
+/// Passes the geometry of a feature whose integers are packed in one field to a visitor, and judges
+/// it on the way; the tags are left in the scratch.
 ///
-/// `None` where they stand otherwise, where many tags stand behind them or find no memory there,
-/// where the type is unknown, or where a rule seems to be broken: then the visitor may have been
-/// told some parts, the scratch says nothing, and [`draw_feature`](crate::draw_feature) reads the
+/// `None` if they aren't packed in one field, if many tags follow them or find no memory there, if
+/// the type is unknown, or if a rule seems to be broken: then the visitor may have received some
+/// parts, what the scratch holds means nothing, and [`draw_feature`](crate::draw_feature) reads the
 /// feature or says what is wrong.
 ///
 /// # Errors
@@ -73,7 +73,7 @@ pub fn draw_usual_feature<V: GeometryVisitor>(
 
 /// Whether a payload is a feature, in a layer with these keys and this number of values.
 ///
-/// It answers what `judge_feature` does; the integers of most features are judged where they lie.
+/// It answers what `judge_feature` does; the integers of most features are judged in place.
 ///
 /// # Errors
 ///
@@ -157,8 +157,8 @@ struct Usual<'a> {
 }
 
 impl<'a> Usual<'a> {
-    /// What all fields say: these come behind those so far. `None` where a rule is broken or seems
-    /// to be, memory runs out, or more than one field has integers.
+    /// What all fields say: these come after those so far. `None` if a rule is broken or seems to
+    /// be, memory runs out, or more than one field has integers.
     #[inline(always)]
     fn with_fields(
         self,
@@ -232,11 +232,11 @@ impl<'a> Usual<'a> {
     }
 }
 
-/// The most tags that a feature has where some are read behind the integers before these are
-/// judged: so broken ones are told before work grows with what stands behind them.
+/// The most tags that a feature has where some are read after the integers before these are judged:
+/// so broken ones are told before work grows with what stands after them.
 const MOST_BEHIND: usize = 1024;
 
-/// Whether a field behind the integers may have more tags than these, where there are so many.
+/// Whether a field after the integers may have more tags than these, where there are so many.
 #[inline(always)]
 fn is_much(field: &Field<'_>, tags: usize) -> bool {
     if field.number != feature::TAGS {

@@ -22,7 +22,7 @@ use std::mem::swap;
 ///
 /// # Errors
 ///
-/// When memory runs out; the list is then as it was.
+/// When memory runs out; the list is then unchanged.
 pub fn append_value(out: &mut Vec<u8>, value: &Value) -> Result<(), AllocError>
     ensures ok { OnOk result (out.new.items ≡ out.old.items ++ spelled (value_fields value.now)) }
     ensures err { OnErr result (out.new.items ≡ out.old.items) }
@@ -58,8 +58,8 @@ pub fn value_len(value: &Value) -> u64
 ///
 /// # Errors
 ///
-/// When memory runs out, or more keys or values are used than a pool may hold; the list is then as
-/// it was or a longer one.
+/// When memory runs out, or more keys or values are used than a pool may hold; the list is then
+/// unchanged or longer.
 pub fn append_feature(
     feature: &Feature,
     uses: &mut LayerEntries,

@@ -22,7 +22,7 @@ pub(crate) const VERSION_TAG: u8 = 0x78;
 /// The field of version 2.
 const VERSION_FIELD: [u8; 2] = [VERSION_TAG, 2];
 
-/// The most bytes of an extent, whose number has up to five, and of a version 2 behind it.
+/// The most bytes of an extent, whose number has up to five, and of a version 2 after it.
 const MOST_BEHIND: usize = 8;
 
 /// What was met of the three so far.
@@ -147,7 +147,7 @@ fn with_version<'a>(body: &'a [u8], at: usize, before: &Around<'a>) -> Option<(A
     }
 }
 
-/// Whether what wasn't met in front may stand behind, by the last bytes. Layers of another version,
+/// Whether what wasn't met in front may stand after, by the last bytes. Layers of another version,
 /// or whose version stands among other fields, and those without an extent are told by this before
 /// the keys and the values are read.
 pub(crate) fn may_be_whole(body: &[u8], head: &Around<'_>) -> bool

@@ -17,8 +17,8 @@ use mvt_geometry::{GeometryVisitor, Ignore};
 use mvt_wire::short_number_at;
 use std::alloc::{AllocError, Global};
 
-/// What is told the features of a layer whose fields are canonical as they stand: the parts of each
-/// one's geometry, and then its end.
+/// An object that receives the features of a layer whose fields are canonical as they stand: the
+/// parts of each geometry, and then the feature's end.
 pub trait CanonicalVisitor: GeometryVisitor {
     // What it has of the items before this one and of these features.
     ghost has_read: { List Item → Self → List AFeature → Type 0 };
@@ -45,12 +45,12 @@ impl CanonicalVisitor for Ignore {
     }
 }
 
-/// Judges whether a payload is the canonical one of a layer of version 2, has a visitor be told its
-/// features, and answers its name. Nothing is written.
+/// Judges whether a payload is the canonical one of a layer of version 2, passes its features to a
+/// visitor, and answers its name. Nothing is written.
 ///
 /// # Errors
 ///
-/// Where it isn't, or isn't known to be. The visitor may then have features of it.
+/// If it isn't, or isn't known to be. The visitor may then have received some of its features.
 pub fn visit_canonical<'a, V: CanonicalVisitor>(
     alloc: Global,
     visitor: &mut V,
@@ -97,7 +97,7 @@ fn frame_in_place(alloc: Global, payload: &[u8]) -> Result<Frame<'_>, NotCanonic
     })
 }
 
-/// The name behind a version of 2, and the offset after it.
+/// The name after a version of 2, and the offset after it.
 fn head_in_place(payload: &[u8]) -> Option<(&str, usize)>
     ensures fields { IfSome result (λ f. payload.now
         ≡ spelled (head_fields f.0.now) ++ drop f.1 payload.now) }
@@ -124,7 +124,7 @@ fn begins_with_version(payload: &[u8]) -> bool
     }
 }
 
-/// The extent that stands at an offset, and nothing behind it.
+/// The extent that stands at an offset, and nothing after it.
 fn extent_at_end(payload: &[u8], at: usize) -> Option<u32>
     requires { at ≤ length payload.now }
     ensures field { IfSome result (λ extent. drop at payload.now

@@ -25,7 +25,7 @@ use mvt_wire::{Field, Fields};
 use std::alloc::Global;
 
 /// Has a visitor take the features of a layer with these keys, this number of values, and so many
-/// features. What stands behind the last feature isn't looked at again.
+/// features. What stands after the last feature isn't looked at again.
 pub(crate) fn visit_features<V: LayerVisitor>(
     alloc: Global,
     visitor: &mut V,

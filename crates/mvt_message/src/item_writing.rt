@@ -71,7 +71,7 @@ impl Error for PutError {}
 ///
 /// # Errors
 ///
-/// `TooLarge` where the payload has more bytes than the limit, `Memory` when memory runs out.
+/// `TooLarge` if the payload has more bytes than the limit, `Memory` when memory runs out.
 #[tactic(auto, unfolding(crate::specs::CanonicalItems::canonical_item, crate::specs::ValidItems::ValidItem))]
 pub fn put_item(alloc: Global, item: &Item) -> Result<Vec<u8>, PutError>
     requires { ValidItem item.now }
@@ -86,7 +86,7 @@ pub fn put_item(alloc: Global, item: &Item) -> Result<Vec<u8>, PutError>
     }
 }
 
-/// The length of an item's canonical payload, which is made for it where it is a layer's.
+/// The length of an item's canonical payload. To know that of a layer, the payload is made.
 ///
 /// # Errors
 ///

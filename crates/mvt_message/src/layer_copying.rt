@@ -52,7 +52,7 @@ pub(crate) enum Known<'a> {
 
 /// A layer of version 2 made canonical, where its features, keys and values stand in the canonical
 /// order, and its first features are canonical. Its version, its name and its extent may stand in
-/// front of them or behind.
+/// front of them or after.
 ///
 /// # Errors
 ///
@@ -101,7 +101,7 @@ pub(crate) fn bounds_of(frame: &Frame<'_>) -> (usize, usize)
     (frame.features_at, frame.front.end_at)
 }
 
-/// The frame of a layer whose version, name and extent stand in front of the others or behind them,
+/// The frame of a layer whose version, name and extent stand in front of the others or after them,
 /// in any order.
 fn frame_of(alloc: Global, body: &[u8]) -> Result<Frame<'_>, NotCanonical>
     ensures { IfOk result (IsFrameOf body.now) }

@@ -23,7 +23,7 @@ pub(crate) struct LayerFields<'a> {
     pub(crate) values: usize,
 }
 
-/// The first fault of a walk over a layer's fields. One of an earlier rank may stand behind it, and
+/// The first fault of a walk over a layer's fields. One of an earlier rank may stand after it, and
 /// in a layer of another version it is none.
 #[derive(Drop)]
 pub(crate) enum LayerFault {

@@ -1,4 +1,4 @@
-//! A layer made canonical one feature after the other: each is written, and a visitor is told it
+//! A layer made canonical one feature after another: each is written, and passed to a visitor
 //! (Mapbox Vector Tile Specification 2.1, 4.1).
 ghost use Rattle.std.specs.Prelude.{◌≡◌, ℕ, ◌+◌, ◌^◌, ◌<◌, ◌≤◌, [], ◌∷◌, ◌++◌, List, length, None, IfOk, IfErr, OnErr, OnOk};
 ghost use Rattle.mvt_base.specs.Related.{Extends};
@@ -24,7 +24,8 @@ use mvt_geometry::Ignore;
 use mvt_wire::{Payload, put_field};
 use std::alloc::{AllocError, Global};
 
-/// What is told the features of a layer, one after the other, while it is made canonical.
+/// An object that receives the features of a layer, one after another, while the layer is made
+/// canonical.
 pub trait RewriteVisitor: Drop {
     // What it has of the items before this one and of these features, whose canonical fields are
     // these bytes.
@@ -72,7 +73,7 @@ pub enum Rewritten<'a, V: RewriteVisitor> {
     Foreign(u32),
 }
 
-/// The canonical parts of a layer, one behind the other: the head, the features, the tail.
+/// The canonical parts of a layer, in order: the head, the features, the tail.
 #[derive(Drop)]
 pub struct RewrittenLayer<'a, V: RewriteVisitor> {
     pub name: &'a str,
@@ -86,7 +87,7 @@ impl<'a, V: RewriteVisitor> RewrittenLayer<'a, V> {
     ///
     /// # Errors
     ///
-    /// When memory runs out; the list is then as it was or a longer one.
+    /// When memory runs out; the list is then unchanged or longer.
     pub fn append_head(&self, out: &mut Vec<u8>) -> Result<(), AllocError>
         ensures ok { OnOk result (out.new.items
             ≡ out.old.items ++ spelled (head_fields self.now.name.now)) }
@@ -102,11 +103,11 @@ impl<'a, V: RewriteVisitor> RewrittenLayer<'a, V> {
         &self.writer.features
     }
 
-    /// Appends the fields behind those of the features.
+    /// Appends the fields after those of the features.
     ///
     /// # Errors
     ///
-    /// When memory runs out; the list is then as it was or a longer one.
+    /// When memory runs out; the list is then unchanged or longer.
     pub fn append_tail(&self, out: &mut Vec<u8>) -> Result<(), AllocError>
         ensures ok { OnOk result (out.new.items
             ≡ out.old.items ++ tail_of self.now.writer.uses self.now.extent) }
@@ -116,11 +117,11 @@ impl<'a, V: RewriteVisitor> RewrittenLayer<'a, V> {
     }
 }
 
-/// Makes the item of a payload canonical, and has a visitor be told the features.
+/// Makes the item of a payload canonical, and passes its features to a visitor.
 ///
-/// A key or a value is looked for by its hashes, and where others have these too, in order. So the
-/// time grows as sorting the payload, whatever its texts are. What it holds are the layer's keys
-/// and values and the fields of its features.
+/// A key or a value is found by its hashes, and if others have these too, in order. So the time
+/// grows as sorting the payload, whatever its texts are. It holds the layer's keys and values and
+/// the fields of its features.
 ///
 /// # Errors
 ///

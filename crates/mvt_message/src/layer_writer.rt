@@ -43,9 +43,9 @@ pub(crate) const LAYER_ROOM: usize = 1024;
 /// let payload = writer.payload(alloc, name, extent)?;
 /// ```
 ///
-/// A key or a value is looked for by its hashes when it is added, and where others have these too,
-/// in order. What it holds are the layer's keys and values and the fields of its features. After an
-/// error it says nothing.
+/// A key or a value is found by its hashes when it is added, and if others have these too, in
+/// order. It holds the layer's keys and values and the fields of its features. After an error its
+/// content means nothing.
 #[derive(Drop)]
 pub struct LayerWriter {
     pub(crate) uses: LayerEntries,
@@ -56,7 +56,7 @@ pub struct LayerWriter {
 }
 
 impl LayerWriter {
-    /// A layer without values, without memory.
+    /// A layer without values. Takes no memory.
     pub fn new(alloc: Global) -> Self
         ensures { HasGathered result [] }
     {
@@ -151,7 +151,7 @@ impl LayerWriter {
     }
 
     /// Adds the feature that has this id, these tags and the geometry that these integers draw.
-    /// From where the features alone are more bytes than the limit, it is left out.
+    /// Once the features alone exceed the limit, it is left out.
     ///
     /// # Errors
     ///
@@ -190,8 +190,7 @@ impl LayerWriter {
         )
     }
 
-    /// The canonical payload of the layer; `None` where its features alone are more bytes than the
-    /// limit.
+    /// The canonical payload of the layer; `None` if its features alone exceed the limit.
     ///
     /// # Errors
     ///
@@ -230,7 +229,7 @@ impl LayerWriter {
         self.append_tail(out, extent)
     }
 
-    /// Appends the fields behind those of the features.
+    /// Appends the fields after those of the features.
     pub(crate) fn append_tail(&self, out: &mut Vec<u8>, extent: u32) -> Result<(), AllocError>
         ensures ok { OnOk result (out.new.items ≡ out.old.items ++ tail_of self.now.uses extent) }
         ensures left { OnErr result (Extends out.old.items out.new.items) }

@@ -37,8 +37,8 @@ pub(crate) struct Counts {
     pub(crate) values: usize,
 }
 
-/// Whether the fields of the first feature may stand in the canonical order, by its first bytes.
-/// Where there is none, only few bytes may follow: keys and values in front of features are more.
+/// Whether the fields of the first feature may stand in the canonical order, by its first bytes. If
+/// there is none, only few bytes may follow: keys and values in front of features are more.
 pub(crate) fn may_begin_in_order(body: &[u8], features_at: usize) -> bool
     requires { features_at ≤ length body.now }
 {
@@ -48,7 +48,7 @@ pub(crate) fn may_begin_in_order(body: &[u8], features_at: usize) -> bool
     }
 }
 
-/// Whether a feature begins with tags, or is a type and integers alone, behind an id if it has one.
+/// Whether a feature begins with tags, or is a type and integers alone, after an id if it has one.
 fn may_be_in_order(payload: &[u8]) -> bool
     ensures typed { (kind : ℕ) (rest : List ℕ) → payload.now ≡ 24 ∷ (kind ∷ rest)
         → IsTrue result → (integers : List ℕ) × (rest ≡ short_field GEOMETRY (bytes integers)) }
@@ -62,7 +62,7 @@ fn may_be_in_order(payload: &[u8]) -> bool
     }
 }
 
-/// The same of what stands behind an id.
+/// The same for what stands after an id.
 fn may_go_on(fields: &[u8]) -> bool
     ensures typed { (kind : ℕ) (rest : List ℕ) → fields.now ≡ 24 ∷ (kind ∷ rest)
         → IsTrue result → (integers : List ℕ) × (rest ≡ short_field GEOMETRY (bytes integers)) }
@@ -77,9 +77,9 @@ fn may_go_on(fields: &[u8]) -> bool
     }
 }
 
-/// How many keys and values stand from an offset on, with nothing but an extent or a version behind
-/// them. `None` where anything else does, there are many, or the first few of more aren't
-/// different. Where few bytes are left, they aren't looked at.
+/// How many keys and values stand from an offset on, with nothing but an extent or a version after
+/// them. `None` if anything else does, there are many, or the first few of more aren't different.
+/// Where few bytes are left, they aren't looked at.
 pub(crate) fn counts_from(
     alloc: Global,
     body: &[u8],
@@ -166,7 +166,7 @@ fn are_first_apart(
     are_distinct(alloc, &first[..count])
 }
 
-/// Whether keys are texts, where more than a few bytes stand behind them, which cost time too.
+/// Whether keys are texts, where more than a few bytes stand after them, which cost time too.
 pub(crate) fn may_be_texts(keys: &[&[u8]], bytes_behind: usize) -> bool {
     if bytes_behind <= FEW_BYTES {
         return true;

@@ -1,4 +1,4 @@
-//! The name of a layer, of which nothing else is looked at.
+//! The name of a layer, without reading the rest.
 ghost use Rattle.std.specs.Prelude.{◌≡◌, ◌==◌, Some, bytes_eq, if◌then◌else◌};
 ghost use Rattle.std.specs.List.{list_any};
 ghost use Rattle.std.specs.Option.{option_copied, option_to_list};
@@ -12,7 +12,7 @@ use crate::numbers::{VERSION_2, layer};
 use crate::payload::bytes_of;
 use mvt_wire::{Field, Fields, Payload};
 
-/// Whether a payload has version 2 and this name, also where it breaks a rule.
+/// Whether a payload has version 2 and this name, even if it breaks a rule.
 pub fn has_name(payload: &[u8], name: &[u8]) -> bool
     ensures { result ≡ list_any (bytes_eq name.now) (payload_names payload.now) }
 {
@@ -22,7 +22,7 @@ pub fn has_name(payload: &[u8], name: &[u8]) -> bool
     }
 }
 
-/// The name of a payload of version 2, also where it breaks a rule: the name may be no text.
+/// The name of a payload of version 2, even if it breaks a rule: the name may not be UTF-8.
 pub fn name_in<'a>(payload: &'a [u8]) -> Option<&'a [u8]>
     ensures { option_to_list (option_copied result) ≡ payload_names payload.now }
 {

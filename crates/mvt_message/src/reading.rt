@@ -53,8 +53,7 @@ pub fn read_item(
     }
 }
 
-/// Whether a payload is an item, and the name of the layer that it is. Nothing is built but the
-/// list of the layer's keys.
+/// Whether a payload is an item, and the layer's name. Builds only the list of the layer's keys.
 ///
 /// # Errors
 ///

@@ -26,15 +26,14 @@ use std::alloc::{AllocError, Global};
 /// Appends the canonical payload of the item that a payload is, and answers the name of the layer.
 /// It may be longer than the limit.
 ///
-/// A layer whose fields stand in the canonical order is looked at first, and what is canonical of
-/// it is copied; so its keys and values may be looked for twice. They are looked for by their
-/// hashes, and where others have these too, in order: the time grows as sorting the payload,
-/// whatever its texts are. What it holds are the layer's keys and values and the fields of its
-/// features.
+/// What is canonical of a layer is copied, if its fields are in the canonical order; so its keys
+/// and values may be searched for twice. They are found by their hashes, and if others have these
+/// too, in order: the time grows as sorting the payload, whatever its texts are. It holds the
+/// layer's keys and values and the fields of its features.
 ///
 /// # Errors
 ///
-/// As [`read_item`](crate::read_item), and the list is then as it was or a longer one.
+/// As [`read_item`](crate::read_item), and the list is then unchanged or longer.
 pub fn rewrite_item<'a>(
     alloc: Global,
     payload: &'a [u8],
@@ -102,7 +101,7 @@ fn append_written(
     layer.writer.append_layer(out, layer.name, layer.extent)
 }
 
-/// The same of any item, field by field.
+/// The same for any item, field by field.
 fn rewrite_anew<'a>(
     alloc: Global,
     payload: &'a [u8],

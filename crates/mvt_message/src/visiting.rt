@@ -1,4 +1,4 @@
-//! The one walk over an item (Mapbox Vector Tile Specification 2.1, 4.1): a visitor is told the
+//! The one walk over an item (Mapbox Vector Tile Specification 2.1, 4.1): a visitor receives the
 //! values, the keys and the features of a layer.
 ghost use Rattle.std.specs.Prelude.{◌≡◌, ◌+◌, ◌^◌, ◌<◌, ◌≤◌, ℕ, List, [], ◌∷◌, ◌++◌, length, Some, None, IfOk, IfErr, OnOk};
 ghost use Rattle.mvt_base.specs.Reports.{Reports};
@@ -28,8 +28,9 @@ use mvt_base::{LIMIT, Text};
 use mvt_feature::{Cause, MessageError, Scratch, fault_at};
 use std::alloc::{AllocError, Global};
 
-/// What is told the parts of a layer, each kind in the layer's order: its values, then its keys,
-/// then its features. It judges a value or a feature while it takes it.
+/// An object that receives values, keys and features as a layer is read: first all values, then all
+/// keys, then the features, each in the layer's order. It judges a value or a feature as it takes
+/// it.
 pub trait LayerVisitor: Drop {
     // What it was given beside the layer.
     ghost Given: { Type 0 };
@@ -120,7 +121,7 @@ pub trait LayerVisitor: Drop {
         ensures same { keys.new ≡ keys.old };
 }
 
-/// What a visitor isn't told of an item.
+/// What a visitor doesn't receive of an item.
 #[derive(Clone, Copy, Debug)]
 pub enum Visited<'a> {
     Layer { name: &'a str, extent: u32 },
@@ -170,8 +171,8 @@ pub fn visit_layer<'a, V: LayerVisitor>(
     Ok(Visited::Foreign { version })
 }
 
-/// The same for a visitor that has no use for the values of a layer of another version: it is told
-/// none of these where the ends of the payload tell the version.
+/// The same for a visitor that has no use for the values of a layer of another version: it receives
+/// none of these if the ends of the payload show the version.
 ///
 /// # Errors
 ///

@@ -1,5 +1,5 @@
-//! A tile made step by step: a builder holds the rows of what it was told, and hands the tile's
-//! bytes out at the end.
+//! A tile made step by step: a builder holds the rows of what it was told, and gives the tile's
+//! bytes at the end.
 ghost use Rattle.std.specs.Prelude.{◌≡◌, ◌≢◌, ◌++◌, [], List, None, Some, Ok, Err, OnOk, OnErr, IfOk, IfErr, IfSome, IsSomeAnd, IsErrOf, bytes_eq, false, true};
 ghost use Rattle.mvt_attrs.specs.FirstUse.{AreDistinct};
 ghost use Rattle.mvt_attrs.specs.Placed.{IsPlaced};
@@ -31,7 +31,7 @@ pub enum BuildError {
     OutOfTurn,
 }
 
-/// Why a builder hands no bytes out.
+/// Why a builder gives no bytes.
 #[derive(Clone, Copy, Debug, Drop, PartialEq, Eq)]
 pub enum FinishError {
     /// A call before has failed.
@@ -83,7 +83,7 @@ pub(crate) struct OpenFeature {
     pub(crate) integers_at: usize,
 }
 
-/// Makes a tile step by step. After a call that fails each further one fails alike.
+/// Makes a tile step by step. After a call that fails, each further one fails the same way.
 #[derive(Drop)]
 pub struct Builder {
     table: Table,
@@ -130,7 +130,7 @@ impl Builder {
         }
     }
 
-    /// Begins a layer of version 2, which ends the one before.
+    /// Begins a layer of version 2, and ends the one before.
     pub fn layer(&mut self, alloc: Global, name: &[u8], extent: u32) -> Result<(), BuildError>
         ensures { IsCalled self.old self.new result (spec.begin_layer name.now extent) }
     {
@@ -139,7 +139,7 @@ impl Builder {
         self.settle(begun)
     }
 
-    /// Adds a layer of another version, of which these are the bytes.
+    /// Adds a layer of another version, given by its bytes.
     pub fn foreign(&mut self, version: u32, bytes: &[u8]) -> Result<(), BuildError>
         ensures { IsCalled self.old self.new result (spec.add_foreign version bytes.now) }
     {
@@ -148,7 +148,7 @@ impl Builder {
         self.settle(added)
     }
 
-    /// The index of a key of the layer. One that isn't there yet is added.
+    /// The index of a key of the layer, which is added if it is new.
     pub fn key(&mut self, key: &[u8]) -> Result<u32, BuildError>
         ensures called { IsCalled self.old self.new result (spec.add_key key.now) }
         ensures index { (told : spec.Told) → HasTold self.old told → IfOk result (λ index.
@@ -159,7 +159,7 @@ impl Builder {
         self.settle(index)
     }
 
-    /// The index of a value of the layer. One that isn't there yet is added.
+    /// The index of a value of the layer, which is added if it is new.
     pub fn value(&mut self, value: &AnyValue<'_>) -> Result<u32, BuildError>
         ensures called { IsCalled self.old self.new result (spec.add_value (given_of value.now)) }
         ensures index { (told : spec.Told) → HasTold self.old told → IfOk result (λ index.
@@ -171,7 +171,7 @@ impl Builder {
         self.settle(index)
     }
 
-    /// Begins a feature of the layer, which ends the one before.
+    /// Begins a feature of the layer, and ends the one before.
     pub fn feature(&mut self, kind: u32) -> Result<(), BuildError>
         ensures { IsCalled self.old self.new result (spec.begin_feature kind) }
     {
@@ -229,7 +229,7 @@ impl Builder {
         self.settle(begun)
     }
 
-    /// Adds points to the line or the ring that was begun last, or to a feature of points.
+    /// Adds points to the line or the ring that began last, or to a feature of points.
     pub fn points(&mut self, points: &[PointRow]) -> Result<(), BuildError>
         ensures { IsCalled self.old self.new result (spec.add_points points.now) }
     {
@@ -248,7 +248,7 @@ impl Builder {
         self.settle(added)
     }
 
-    /// Takes the feature back that was begun last and hasn't ended.
+    /// Removes the feature that began last and hasn't ended.
     pub fn drop_feature(&mut self) -> Result<(), BuildError>
         ensures { IsCalled self.old self.new result spec.drop_feature }
     {
@@ -273,7 +273,7 @@ impl Builder {
     ///
     /// # Errors
     ///
-    /// The failure of a call before; want of memory; rows that are no valid tile, and why; a result
+    /// The failure of a call before; out of memory; rows that are no valid tile, and why; a result
     /// beyond the limit.
     pub fn finish(self, alloc: Global) -> Result<Vec<u8>, FinishError>
         ensures done { IfOk result (λ made. (told : spec.Told) → HasTold self told
@@ -354,7 +354,7 @@ impl Builder {
         }
     }
 
-    /// Ends the part that has begun, where there is one.
+    /// Ends the part that has begun, if there is one.
     fn end_part(&mut self) -> Result<(), AllocError>
         ensures holds { (t : Table) (begun : spec.Begun) → Holds self.old t begun
             → OnOk result (Holds self.new t (spec.part_ended begun)) }
@@ -367,7 +367,7 @@ impl Builder {
         Ok(())
     }
 
-    /// Ends the feature that has begun, where there is one.
+    /// Ends the feature that has begun, if there is one.
     fn end_feature(&mut self) -> Result<(), AllocError>
         ensures holds { (t : Table) (begun : spec.Begun) → Holds self.old t begun
             → OnOk result (Holds self.new t (spec.feature_ended begun)) }
@@ -381,7 +381,7 @@ impl Builder {
         Ok(())
     }
 
-    /// Ends the layer that has begun, where there is one.
+    /// Ends the layer that has begun, if there is one.
     fn end_layer(&mut self) -> Result<(), AllocError>
         ensures holds { (items : List spec.ToldItem) (begun : spec.Begun)
             → Holds self.old (rows_of items) begun → OnOk result

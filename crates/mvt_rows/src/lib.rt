@@ -1,6 +1,5 @@
-//! A tile as flat rows, and the bytes of the tile that rows are: each row names the parts that
-//! belong to it by where they stand in the list of their kind. So code in any language follows a
-//! tile without calls.
+//! A tile as flat rows, and the bytes of the tile that rows are: each row refers to its parts by
+//! their place in the list of their kind. So code in any language can read a tile without calls.
 #![tactic(auto)]
 
 mod builder;

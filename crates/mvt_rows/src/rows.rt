@@ -1,5 +1,5 @@
-//! A tile as flat rows, which C reads as they stand: each row names the parts that belong to it by
-//! where they stand in the list of their kind.
+//! A tile as flat rows, which C reads as they are: each row refers to its parts by their place in
+//! the list of their kind.
 
 /// Where a part of a list stands: its first entry, and how many there are.
 #[repr(C)]
@@ -9,8 +9,8 @@ pub struct Span {
     pub len: u64,
 }
 
-/// A layer. One of version 2 has a name, an extent, features and its keys and values; one of
-/// another version its bytes. What it hasn't is 0.
+/// A layer. One of version 2 has a name, an extent, features, keys and values; one of another
+/// version has its bytes. All other fields are 0.
 #[repr(C)]
 #[derive(Clone, Copy, Debug, PartialEq, Eq)]
 pub struct LayerRow {
@@ -30,7 +30,7 @@ pub struct LayerRow {
 #[derive(Clone, Copy, Debug, PartialEq, Eq)]
 pub struct FeatureRow {
     pub id: u64,
-    /// 1 where it has an id, else 0.
+    /// 1 if it has an id, else 0.
     pub has_id: u32,
     /// 0 unknown, 1 points, 2 lines, 3 polygons (4.3.4).
     pub kind: u32,
@@ -53,12 +53,12 @@ pub struct ValueRow {
     pub text: Span,
 }
 
-/// A line, a ring, or all points of a feature of points. A ring's last point is joined to its
+/// A line, a ring, or all points of a feature of points. A ring closes from its last point to its
 /// first.
 #[repr(C)]
 #[derive(Clone, Copy, Debug, PartialEq, Eq)]
 pub struct PartRow {
-    /// 1 where an exterior ring begins a polygon, else 0.
+    /// 1 if it is an exterior ring, which begins a polygon, else 0.
     pub exterior: u32,
     pub points: Span,
 }

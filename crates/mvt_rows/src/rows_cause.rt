@@ -6,9 +6,8 @@ use mvt_attrs::TagCause;
 
 /// What is wrong with rows.
 ///
-/// A cause is looked for as the rows are written: a layer to its end before the next. In a layer of
-/// version 2 that is first its name, also whether an earlier layer has it; then its keys, its
-/// values and the span of its features; then feature by feature.
+/// Rows are checked layer by layer. In a layer of version 2 that is first its name, and whether an
+/// earlier layer has it; then its keys, its values and the span of its features; then its features.
 #[derive(Clone, Copy, Debug, PartialEq, Eq)]
 pub enum RowsCause {
     /// The span of a layer's name reaches beyond the texts.
@@ -100,7 +99,7 @@ impl RowsCause {
 pub struct RowsFault {
     /// The index of the layer.
     pub layer: usize,
-    /// The index of the feature in its layer, where a feature is to blame.
+    /// The index of the feature in its layer, if the fault is in a feature.
     pub feature: Option<usize>,
     pub cause: RowsCause,
 }

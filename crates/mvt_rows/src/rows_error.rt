@@ -119,7 +119,7 @@ impl<T: Drop> From<AllocFailed<T>> for RowPartError {
     }
 }
 
-/// What was made, or nothing where there is no such part.
+/// What was made, or nothing if there is no such part.
 pub(crate) fn if_any<T: Drop>(made: Result<T, RowPartError>) -> Result<Option<T>, RowError>
     ensures { result ≡ if_any made }
 {

@@ -215,7 +215,7 @@ impl Table {
         Ok(())
     }
 
-    /// Adds a value, or nothing where memory runs out.
+    /// Adds a value, or nothing if memory runs out.
     fn add_value(&mut self, meaning: ValueRef<'_>) -> Result<(), AllocError>
         ensures ok { OnOk result (self.new ≡ with_value self.old (referred_value meaning.entry)) }
         ensures err { OnErr result (self.new ≡ self.old) }

@@ -9,7 +9,7 @@ use std::cmp::Ordering;
 use std::hash::{Hash, Hasher};
 use std::marker::Model;
 
-/// Bytes that contracts see as a list. They may be no UTF-8.
+/// Bytes that contracts see as a list. They may not be UTF-8.
 #[derive(Drop)]
 pub(crate) struct Word {
     bytes: Vec<u8>,

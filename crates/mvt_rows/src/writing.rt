@@ -1,5 +1,5 @@
-//! Rows written as a tile's bytes, layer by layer and feature by feature: no layer of it stands as
-//! a value.
+//! Rows written as a tile's bytes, layer by layer and feature by feature, without values in
+//! between.
 ghost use Rattle.std.specs.Prelude.{◌≡◌, ◌≢◌, ◌∷◌, ◌++◌, [], List, None, IfOk, IfErr, MatchOption, OnOk};
 ghost use Rattle.std.specs.List.{flat_map};
 ghost use Rattle.mvt_base.specs.declared.TheConstants.{LIMIT as the_limit};
@@ -34,14 +34,13 @@ use parts::part;
 use std::alloc::{AllocError, Global};
 use std::str;
 
-/// The canonical bytes of the tile that rows are. What it holds are these bytes, and of one layer
-/// its keys, its values, the fields of its features and one feature.
+/// The canonical bytes of the tile that rows are. It holds these bytes, and of one layer the keys,
+/// the values and the fields of the features.
 ///
 /// # Errors
 ///
-/// Rows that are no valid tile, and why; a result beyond the limit; want of memory. Spans that
-/// overlap, and
-/// so name more entries than all lists and the limit have, are told as want of memory.
+/// Rows that are no valid tile, and why; a result beyond the limit; out of memory, also for spans
+/// that overlap and so name more entries than all lists and the limit have.
 pub fn write_rows(alloc: Global, rows: &Rows<'_>) -> Result<Vec<u8>, RowsError>
     ensures done { IfOk result (λ made. IsWritten (table_of rows.now) made.items) }
     ensures refused { IfErr result (NotWritten (table_of rows.now)) }
@@ -56,8 +55,8 @@ pub fn write_rows(alloc: Global, rows: &Rows<'_>) -> Result<Vec<u8>, RowsError>
     writer.out.ok_or(RowsError::TooLarge)
 }
 
-/// The first thing that is wrong with rows, or nothing where they are a valid tile: they are
-/// written, and the bytes are let go.
+/// The first thing that is wrong with rows, or nothing if they are a valid tile. They are written,
+/// and the bytes dropped.
 ///
 /// # Errors
 ///

@@ -96,7 +96,7 @@ impl Table {
         self.keep_room(before.parts_room, before.points_room);
     }
 
-    /// Drops what stands behind so many parts and so many points.
+    /// Drops what stands after so many parts and this many points.
     fn keep_parts(&mut self, parts: usize, points: usize)
         ensures { self.new ≡ record self.old {
           parts = take parts self.old.parts;

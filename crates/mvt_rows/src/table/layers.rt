@@ -31,7 +31,7 @@ fn type_of(kind: Kind) -> u32
 
 impl Table {
     /// Adds the row of a feature whose parts and integers stand after these places, and its tags as
-    /// they stand; nothing where memory runs out.
+    /// they stand; nothing if memory runs out.
     pub(super) fn add_feature_row(
         &mut self,
         tags: &[u32],
@@ -68,7 +68,7 @@ impl Table {
         self.add_named_row(name.as_bytes(), extent, opened)
     }
 
-    /// The same with a name that may be no UTF-8.
+    /// The same with a name that may not be UTF-8.
     pub(crate) fn add_named_row(
         &mut self,
         name: &[u8],
@@ -89,7 +89,7 @@ impl Table {
         self.texts.extend_from_slice(name)
     }
 
-    /// Drops what stands behind these places of values and texts.
+    /// Drops what stands after these places of values and texts.
     pub(super) fn forget_values(&mut self, opened: Places)
         ensures { self.new ≡ without_values self.old opened }
     {

@@ -17,12 +17,11 @@ use mvt_message::{LayerVisitor, MessageError, Visited, visit_version_2};
 use mvt_tile::{DecodeError, TileVisitor, VisitingDecoder, visit_named, visit_tile};
 use std::alloc::{AllocError, Global};
 
-/// Reads a tile as rows. A layer has its keys and its values as the tile has them, also those that
-/// no feature names.
+/// Reads a tile as rows. A layer has all keys and values of the tile's layer, also unused ones.
 ///
 /// # Errors
 ///
-/// The tile's first fault; want of memory. Never a failed read.
+/// The tile's first fault; out of memory. Never a failed read.
 pub fn read_rows(alloc: Global, bytes: &[u8]) -> Result<Table, DecodeError>
     ensures read { IfOk result (IsRead bytes.now) }
     ensures fault { IfErr result (λ error. ReportsAtEnd error (fault_within LIMIT bytes.now)) }
@@ -30,11 +29,11 @@ pub fn read_rows(alloc: Global, bytes: &[u8]) -> Result<Table, DecodeError>
     read_rows_within(alloc, bytes, u64::MAX)
 }
 
-/// Reads a tile as rows whose lists have at most so many bytes.
+/// Reads a tile as rows whose lists have at most `most` bytes.
 ///
 /// # Errors
 ///
-/// As [`read_rows`]; want of memory where the lists would have more.
+/// As [`read_rows`]; out of memory if the lists would have more.
 pub fn read_rows_within(alloc: Global, bytes: &[u8], most: u64) -> Result<Table, DecodeError>
     ensures read { IfOk result (IsRead bytes.now) }
     ensures within { IfOk result (λ table. table_size table ≤ most) }
@@ -46,13 +45,12 @@ pub fn read_rows_within(alloc: Global, bytes: &[u8], most: u64) -> Result<Table,
     Ok(rows.into_table())
 }
 
-/// Reads the first layer of version 2 of a name as rows whose lists have at most so many bytes;
-/// none where no layer has that name. Nothing else is judged.
+/// Reads the first layer of version 2 with a name as rows whose lists have at most `most` bytes;
+/// none if no layer has that name. Reads only as far as this layer; later bytes may be broken.
 ///
 /// # Errors
 ///
-/// The first fault of that layer; bytes before it that are no field; too many bytes; want of
-/// memory.
+/// The first fault of that layer; bytes before it that are no field; too many bytes; out of memory.
 pub fn read_layer(
     alloc: Global,
     bytes: &[u8],
@@ -85,7 +83,7 @@ pub struct RowsVisitor {
 }
 
 impl RowsVisitor {
-    /// No rows yet, without memory. Their lists shall have at most so many bytes.
+    /// No rows yet, whose lists shall have at most `most` bytes. Takes no memory.
     pub fn new(alloc: Global, most: u64) -> Self
         ensures table { result.table ≡ no_rows }
         ensures items { AreItemRows result.table [] }
@@ -109,7 +107,7 @@ impl RowsVisitor {
         table
     }
 
-    /// Want of memory where the lists have more bytes than they shall.
+    /// Out of memory if the lists have more bytes than they shall.
     fn keep_within(&self) -> Result<(), AllocError>
         ensures { OnOk result (table_size self.now.table ≤ self.now.most) }
     {

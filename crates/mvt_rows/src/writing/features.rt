@@ -24,7 +24,7 @@ use std::alloc::Global;
 pub(crate) struct FeatureParts<'a> {
     pub(crate) id: Option<u64>,
     pub(crate) tags: &'a [u32],
-    /// The type of its geometry; `None` where no integers draw that.
+    /// The type of its geometry; `None` if no integers draw that.
     pub(crate) kind: Option<Kind>,
 }
 

@@ -37,7 +37,7 @@ impl Position for PointRow {
     }
 }
 
-/// Draws the geometry of a feature's row, and answers its type; `None` where there is one that no
+/// Draws the geometry of a feature's row, and answers its type; `None` if there is one that no
 /// integers draw. The list then has its integers alone.
 ///
 /// Parts that can't be drawn are told only after all parts have counted.

@@ -26,7 +26,7 @@ use mvt_message::LayerWriter;
 use mvt_wire::PackedNumbers;
 use std::alloc::{AllocError, Global};
 
-/// The canonical payload of the layer of a row with this name; `None` where its features alone are
+/// The canonical payload of the layer of a row with this name; `None` if its features alone are
 /// more bytes than the limit.
 pub(crate) fn layer_payload(
     alloc: Global,
