@@ -21,7 +21,7 @@ import time
 from pathlib import Path
 
 import psutil
-from mvt._mvt import answer
+from mvt._mvt import looked_at
 from mvt.audit import engine
 from mvt.audit.judging import judged_part
 from mvt.audit.results import Block, Results
@@ -198,14 +198,16 @@ def alone(tiles, name):
         block = judged_part(store, next(store.ranges(ADDED)))
         part = next(store.ranges(JUDGED))
         contents = [content for _, content in store.tiles(part)]
-        judged, needed, added = [], [], []
+        judged, needed, linted, added = [], [], [], []
         for number in range(TRIED):
             judged.append(spent_by(lambda: judged_part(store, part)))
-            needed.append(spent_by(lambda: [answer("report", unpacked(content)) for content in contents]))
+            needed.append(spent_by(lambda: [looked_at(unpacked(content), False) for content in contents]))
+            linted.append(spent_by(lambda: [looked_at(unpacked(content), True) for content in contents]))
             added.append(spent_by(lambda: results.add([Block(store.path, number, block)])))  # noqa: B023
         results.close()
     return (f"{name}: a worker {1e6 * min(judged) / JUDGED:.1f} µs a tile, of which unpacking and judging take"
-            f" {1e6 * min(needed) / JUDGED:.1f}; the client {1e6 * min(added) / ADDED:.2f}")
+            f" {1e6 * min(needed) / JUDGED:.1f}, and findings {1e6 * (min(linted) - min(needed)) / JUDGED:.1f};"
+            f" the client {1e6 * min(added) / ADDED:.2f}")
 
 
 def spent_by(call):

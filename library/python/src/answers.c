@@ -83,6 +83,53 @@ static PyObject *answer(PyObject *module, PyObject *words) {
     return told;
 }
 
+/* The report of a tile and its findings, which aren't looked for where the flag is 0. */
+static uint32_t look(PyObject *tile, int lints, mvt_bytes *report, mvt_bytes *lint, mvt_fault *fault) {
+    size_t len;
+    const uint8_t *bytes = content_of(tile, &len);
+    uint32_t status;
+    Py_BEGIN_ALLOW_THREADS
+    status = mvt_report(bytes, len, report, fault);
+    if (status == MVT_OK && lints) status = mvt_lint(bytes, len, lint, fault);
+    Py_END_ALLOW_THREADS
+    return status;
+}
+
+/* Whether a report is its first line. */
+static int is_line(mvt_bytes report) {
+    const uint8_t *end = memchr(report.data, '\n', report.len);
+    return end != NULL && (size_t)(end - report.data) + 1 == report.len;
+}
+
+static PyObject *none(void) {
+    Py_INCREF(Py_None);
+    return Py_None;
+}
+
+static PyObject *looked_at(PyObject *module, PyObject *words) {
+    (void)module;
+    PyObject *given, *told;
+    int lints;
+    if (!PyArg_ParseTuple(words, "Op:looked_at", &given, &lints)) return NULL;
+    PyObject *tile = bytes_of(given);
+    if (tile == NULL) return NULL;
+    mvt_bytes report = {NULL, 0}, lint = {NULL, 0};
+    mvt_fault fault = {0};
+    const uint32_t status = look(tile, lints, &report, &lint, &fault);
+    if (status != MVT_OK && status != MVT_REFUSED) {
+        told = PyErr_NoMemory();
+    } else if (status == MVT_OK && is_line(report) && lint.len == 0) {
+        told = none();
+    } else {
+        PyObject *why = status == MVT_REFUSED ? fault_told(&fault) : none();
+        told = Py_BuildValue("(NNN)", why, lent_bytes(report), lent_bytes(lint));
+    }
+    mvt_bytes_free(&report);
+    mvt_bytes_free(&lint);
+    Py_DECREF(tile);
+    return told;
+}
+
 /* Of bytes of names: what mvt_extract answers. */
 static uint32_t extract(PyObject *tile, PyObject *names, held *out, mvt_fault *fault) {
     const Py_ssize_t count = PyList_Size(names);
@@ -151,6 +198,10 @@ PyMethodDef ANSWERS_CALLS[] = {
     {"answer", answer, METH_VARARGS,
      "answer($module, call, tile, most=18446744073709551615, /)\n--\n\n"
      "The status of a call (judge, report, lint, rewrite, json, svg or rows) and the fault, or what was made."},
+    {"looked_at", looked_at, METH_VARARGS,
+     "looked_at($module, tile, lints, /)\n--\n\n"
+     "The fault or None, the report, and what `mvt lint` prints where that is asked for; or nothing but None, where there is\n"
+     "no fault, no note and no finding. Raises MemoryError."},
     {"answer_extract", answer_extract, METH_VARARGS,
      "answer_extract($module, tile, names, /)\n--\n\nThe same, of the layers that bytes name."},
     {"located", located, METH_VARARGS,

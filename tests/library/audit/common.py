@@ -16,6 +16,12 @@ from pathlib import Path
 
 TOP = Path(__file__).resolve().parents[3]
 TILES = TOP / "examples" / "tiles"
+sys.path += map(str, (TOP / "examples" / "viewers", TOP / "tests" / "examples"))
+from evidence import tiles as evidence_tiles  # noqa: E402
+from linted import FOUND  # noqa: E402
+
+# The smallest tiles that viewers stumble over, and those at the limits, by name.
+EVIDENCE = dict(evidence_tiles())
 # In an installed package or wheel the command itself is named.
 AUDIT = [os.environ["MVT_AUDIT"]] if "MVT_AUDIT" in os.environ else [sys.executable, "-m", "mvt.audit"]
 FAULT = re.compile(r"(.*): layer (\S+) feature (\S+) at (\d+): (\d+) (\w+)")
@@ -132,4 +138,4 @@ class Case(unittest.TestCase):
         self.assertEqual(error.count("\n"), 1, error)
 
 
-__all__ = ["AUDIT", "Case", "audit", "at_places", "check", "example_tiles", "json", "make_mbtiles", "make_tree", "packings", "rows", "signal", "start"]
+__all__ = ["AUDIT", "EVIDENCE", "FOUND", "Case", "audit", "at_places", "check", "example_tiles", "json", "make_mbtiles", "make_tree", "packings", "rows", "signal", "start"]

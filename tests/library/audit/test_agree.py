@@ -73,7 +73,7 @@ class Agree(Case):
         make_tree(self.room / "tree", at_places(tiles))
         status, out, _ = audit(self.room / "tree", "--into", self.into)
         self.assertEqual(status, 1)
-        self.assertEqual(len(out.splitlines()), 10)
+        self.assertEqual(len(out.splitlines()), 11)
         self.assertRegex(out, "(?m)^2 accepted$")
         self.assertRegex(out, "(?m)^2 empty$")
         self.assertRegex(out, "(?m)^1 not unpacked$")

@@ -80,7 +80,7 @@ class Archives(Case):
         store, _ = self.opened(archives.archive(tiles))
         asked = []
         judge = judging.Judge()
-        judge._report = lambda tile: asked.append(tile) or b"ok layers 1 features 1 canonical no\n"
+        judge._look = lambda tile, lints: asked.append(tile)
         said = [judge(content) for _, content in self.found(store, 10_000)]
         self.assertEqual((len(said), len(asked)), (len(tiles), 1))
 

@@ -119,7 +119,7 @@ class Runs(Case):
         status, first, _ = audit(self.listed(1), "--into", self.into)
         status, second, error = audit(self.room / "list.txt", "--into", self.into)
         self.assertEqual(status, 1)
-        self.assertEqual(first.splitlines()[:8], second.splitlines()[:8])
+        self.assertEqual(first.splitlines()[:9], second.splitlines()[:9])
         self.assertRegex(error, "all .* tiles are judged already")
 
     def test_a_killed_worker_loses_nothing(self):

@@ -4,7 +4,7 @@ import gzip
 import unittest
 
 import archives
-from common import Case, audit, example_tiles, make_mbtiles, make_tree, rows
+from common import EVIDENCE, Case, audit, example_tiles, make_mbtiles, make_tree, rows
 from mvt.audit.judging import Row
 from test_server import Server
 
@@ -12,8 +12,10 @@ COUNT = 20_000
 
 
 def tiles():
-    """The example tiles in turn, whole and broken, each third plain and each twelfth not there, at zooms 0 to 7."""
+    """The example tiles in turn, whole and broken, and those that viewers stumble over, each third plain and each twelfth not
+    there, at zooms 0 to 7."""
     kinds = [tile for name, tile in example_tiles().items() if len(tile) < 5_000 and name != "04-WireType-gzip"]
+    kinds += EVIDENCE.values()
     places = ((z, x, y) for z in range(8) for x in range(1 << z) for y in range(1 << z))
     found = {}
     for number, place in enumerate(places):
@@ -49,9 +51,11 @@ class Same(Case):
             columns = ", ".join(field for field in Row._fields if field != "name")
             tables.append((
                 rows(into, f"select {columns} from tiles order by z, x, y"),
-                rows(into, "select z, verdict, cause, cause_name, layer_name, tiles from counts order by 1, 2, 3, 4, 5"),
+                rows(into, "select z, verdict, cause, cause_name, layer_name, has_findings, tiles from counts order by 1, 2, 3, 4, 5, 6"),
                 rows(into, "select z, note, tiles from note_counts order by 1, 2"),
-                out.splitlines()[1:8],
+                rows(into, "select z, finding, tiles from finding_counts order by 1, 2"),
+                rows(into, "select z, finding, x, y, lint from finding_examples order by 1, 2"),
+                out.splitlines()[1:10],
             ))
             self.assertEqual(len(tables[-1][0]), COUNT)
         for table in tables[1:]:

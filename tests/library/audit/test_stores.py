@@ -164,16 +164,17 @@ class Blocks(Case):
             blocks = [Block(store.path, part, judged_part(store, tiles)) for part, tiles in enumerate(store.ranges(250))]
             self.assertGreater(len(blocks), 10)
             added = results.add(blocks)
-            found = results.database.execute("select store, z, x, y, verdict, cause, cause_name, layer_name, notes from tiles").fetchall()
+            columns = "verdict, cause, cause_name, layer_name, min(findings, 1), notes"
+            found = results.database.execute(f"select store, z, x, y, {columns} from tiles").fetchall()
             counts = results.database.execute("select * from counts").fetchall()
             notes = results.database.execute("select note, tiles from note_counts where z = 12").fetchall()
             cells = results.database.execute("select * from cells").fetchall()
         self.assertEqual({row[1:4] for row in found}, set(tiles))
-        self.assertEqual(Counter((*row[:2], *row[4:8]) for row in found), {row[:-1]: row[-1] for row in counts})
+        self.assertEqual(Counter((*row[:2], *row[4:9]) for row in found), {row[:-1]: row[-1] for row in counts})
         self.assertEqual(sum(tiles for tiles, _ in added), 3002)
         broken = Counter(row[1:4] for row in found if row[4] in ("refused", "not unpacked"))
         self.assertEqual(sum(tiles for _, tiles in added), broken.total())
-        self.assertEqual(notes, [("NoLayers", sum(row[1] == 12 and row[8] == "NoLayers" for row in found))])
+        self.assertEqual(notes, [("NoLayers", sum(row[1] == 12 and row[9] == "NoLayers" for row in found))])
         squares = {}
         for z, x, y in tiles:
             if z > 8:

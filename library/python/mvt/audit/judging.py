@@ -8,11 +8,12 @@ from contextlib import closing
 from functools import lru_cache
 from operator import itemgetter
 from pathlib import Path
-from typing import Any, Dict, Iterable, Iterator, List, NamedTuple, Optional, Tuple, Union
+from typing import Any, Dict, Iterable, Iterator, List, NamedTuple, Optional, Tuple
 
 import mvt
-from mvt._mvt import answer, located
+from mvt._mvt import located, looked_at
 
+from . import findings
 from .stores import Address, Content, Store
 from .unpacking import LIMIT, NotUnpacked, is_zlib, unpacked
 
@@ -27,8 +28,7 @@ TOO_LARGE = 25
 # Of a tile with more notes the rest is counted.
 MOST_NOTES = 50
 
-# Statuses of the library, and a fault as it tells one.
-_REFUSED, _NO_MEMORY = 1, 2
+# A fault as the library tells one.
 _Fault = Tuple[int, int, int, int, bytes]
 
 # Many tiles of a cache are small and equal: what was said of so many such contents, each of so many bytes at most, is kept.
@@ -39,11 +39,13 @@ TILES = """
 create table tiles (
   store text not null, z integer, x integer, y integer, name text, verdict text not null, bytes integer,
   layer integer, layer_name text, feature integer, feature_id text, place integer, cause integer, cause_name text,
-  notes text not null);
+  notes text not null, findings integer, lint text not null);
 """
 _BLOCK = f"""{TILES}
-create table counts (z integer, verdict text, cause integer, cause_name text, layer_name text, tiles integer);
+create table counts (
+  z integer, verdict text, cause integer, cause_name text, layer_name text, has_findings integer, tiles integer);
 create table note_counts (z integer, note text, tiles integer);
+{findings.BLOCK}
 create table cells (z integer, x integer, y integer, tiles integer, broken integer);
 create table asked (tiles integer);
 """
@@ -69,6 +71,8 @@ class Row(NamedTuple):
     cause: Optional[int] = None
     cause_name: Optional[str] = None
     notes: str = ""
+    findings: Optional[int] = None
+    lint: str = ""
 
 
 class Said(NamedTuple):
@@ -84,15 +88,20 @@ class Said(NamedTuple):
     cause: Optional[int] = None
     cause_name: Optional[str] = None
     notes: str = ""
+    findings: Optional[int] = None
+    lint: str = ""
+
+
+_EMPTY = Said(EMPTY, 0, notes="NoLayers", findings=0)
 
 
 class Judge:
     """Says what it says of one content after the other, and keeps what it said of small ones."""
 
     def __init__(self) -> None:
-        self._report = _reported
+        self._look = looked_at
         self._kept: Dict[bytes, Said] = {}
-        self._last: Tuple[Content, Said] = b"", Said(EMPTY, 0, notes="NoLayers")
+        self._last: Tuple[Content, Said] = b"", _EMPTY
 
     def __call__(self, content: Content) -> Said:
         last, said = self._last
@@ -122,21 +131,28 @@ class Judge:
                 return Said(NOT_UNPACKED, len(content), notes=str(why))
             tile = content
         if not tile:
-            return Said(EMPTY, 0, notes="NoLayers")
+            return _EMPTY
         try:
-            told = self._report(tile)
+            return self._of_tile(tile, len(content) < len(tile))
         except MemoryError:
             return Said(UNREAD, len(tile), notes="out of memory")
-        if isinstance(told, tuple):
-            return Said(REFUSED, len(tile), *_columns(tile, _fault(tile, told), len(content) < len(tile)))
-        # The first line has the counts, and those behind it are notes.
-        return _accepted(len(tile)) if told.find(b"\n") == len(told) - 1 else Said(ACCEPTED, len(tile), notes=_notes(told))
+
+    def _of_tile(self, tile: bytes, is_packed: bool) -> Said:
+        lints = len(tile) <= findings.MOST
+        told = self._look(tile, lints)
+        if told is None and lints:
+            return _accepted(len(tile))
+        fault, report, lint = told or (None, b"", b"")
+        if fault is not None:
+            return Said(REFUSED, len(tile), *_columns(tile, _fault(tile, fault), is_packed))
+        found, first = findings.summed(lint) if lints else (None, findings.NOT_LOOKED_FOR)
+        return Said(ACCEPTED, len(tile), notes=_notes(report), findings=found, lint=first)
 
 
 @lru_cache(maxsize=5000)
 def _accepted(size: int) -> Said:
     """What is said of most tiles."""
-    return Said(ACCEPTED, size)
+    return Said(ACCEPTED, size, findings=0)
 
 
 def judged(address: Address, content: Content) -> Row:
@@ -155,7 +171,7 @@ def judged_part(store: Store, part: Any) -> bytes:
                 block.absent += 1
                 continue
             said = judge(content)
-            if said.verdict is ACCEPTED and not said.notes:
+            if said.verdict is ACCEPTED and not said.notes and not said.lint:
                 plain.append((*address, said.bytes))
             else:
                 others.append((*address, *said))
@@ -167,7 +183,7 @@ def judged_part(store: Store, part: Any) -> bytes:
 # So many rows of a kind are held as objects of Python.
 _AT_A_TIME = 1000
 
-_VERDICT = Row._fields.index("verdict")
+_VERDICT, _FINDINGS, _LINT = (Row._fields.index(name) for name in ("verdict", "findings", "lint"))
 _KIND = itemgetter(*(Row._fields.index(name) for name in ("z", "verdict", "cause", "cause_name", "layer_name")))
 _NOTED = itemgetter(*(Row._fields.index(name) for name in ("z", "verdict", "notes")))
 
@@ -183,13 +199,14 @@ class _Block:
         self._database = database
         self._kinds: "Counter[Tuple[Any, ...]]" = Counter()
         self._notes: "Counter[Tuple[Any, ...]]" = Counter()
+        self._found = findings.Found()
         self._cells: "Counter[Tuple[int, int, int]]" = Counter()
         self._broken: "Counter[Tuple[int, int, int]]" = Counter()
         # A text within a command isn't bound for each row.
         text = path.replace("'", "''")
         self._insert = f"insert into tiles values ('{text}'{', ?' * len(Row._fields)})"
-        self._insert_plain = f"""insert into tiles (store, z, x, y, name, bytes, verdict, notes)
- values ('{text}', ?, ?, ?, ?, ?, '{ACCEPTED}', '')"""
+        self._insert_plain = f"""insert into tiles (store, z, x, y, name, bytes, verdict, notes, findings, lint)
+ values ('{text}', ?, ?, ?, ?, ?, '{ACCEPTED}', '', 0, '')"""
         database.executescript(f"{_BLOCK} begin;")
 
     def write(self) -> None:
@@ -198,11 +215,14 @@ class _Block:
         self._database.executemany(self._insert_plain, plain)
         self._database.executemany(self._insert, others)
         for z, tiles in Counter(map(itemgetter(0), plain)).items():
-            self._kinds[z, ACCEPTED, None, None, None] += tiles
-        self._kinds.update(map(_KIND, others))
+            self._kinds[z, ACCEPTED, None, None, None, 0] += tiles
+        self._kinds.update((*_KIND(row), row[_FINDINGS] and 1) for row in others)
         for z, verdict, said in map(_NOTED, others):
             if said and verdict in (ACCEPTED, EMPTY):
                 self._notes.update((z, note) for note in {line.split(" ")[0] for line in said.split("; ")} - {"and"})
+        for row in others:
+            if row[_FINDINGS]:
+                self._found.add(Address(*row[:_VERDICT]), row[_LINT])
         self._cells.update(_cells(plain))
         self._cells.update(_cells(others))
         self._broken.update(_cells(row for row in others if row[_VERDICT] in BROKEN_VERDICTS))
@@ -215,8 +235,9 @@ class _Block:
         self.write()
         database = self._database
         kinds, notes, cells = self._kinds.items(), self._notes.items(), self._cells.items()
-        database.executemany("insert into counts values (?, ?, ?, ?, ?, ?)", ((*kind, tiles) for kind, tiles in kinds))
+        database.executemany("insert into counts values (?, ?, ?, ?, ?, ?, ?)", ((*kind, tiles) for kind, tiles in kinds))
         database.executemany("insert into note_counts values (?, ?, ?)", ((*note, tiles) for note, tiles in notes))
+        self._found.write(database)
         rows = ((*cell, tiles, self._broken[cell]) for cell, tiles in cells)
         database.executemany("insert into cells values (?, ?, ?, ?, ?)", rows)
         database.execute("insert into asked values (?)", (self._tiles + self.absent,))
@@ -257,14 +278,6 @@ def _is_tile(content: bytes) -> bool:
     except mvt.Refused:
         return False
     return True
-
-
-def _reported(tile: bytes) -> Union[bytes, _Fault]:
-    """The report on a tile, or the fault where it is refused."""
-    status, told = answer("report", tile)
-    if status == _NO_MEMORY:
-        raise MemoryError
-    return told if status == _REFUSED else bytes(told)
 
 
 def _fault(tile: bytes, told: _Fault) -> Tuple[Any, ...]:

@@ -9,6 +9,7 @@ import time
 from pathlib import Path
 from typing import Any, Dict, Iterable, List, NamedTuple, Sequence, Set, Tuple
 
+from . import findings
 from .judging import BROKEN, TILES
 from .stores import State, Store
 
@@ -21,12 +22,13 @@ create table parts (
 {TILES}
 create table counts (
   store text not null, z integer, verdict text not null, cause integer, cause_name text, layer_name text,
-  tiles integer not null);
+  has_findings integer, tiles integer not null);
 create table note_counts (store text not null, z integer, note text not null, tiles integer not null);
+{findings.TABLES}
 create table cells (
   z integer, x integer, y integer, tiles integer not null, broken integer not null, primary key (z, x, y)) without rowid;
 """
-VERSION = 2
+VERSION = 3
 
 # It is made when all tiles are in: while there is none, the rows of a block are copied as they stand.
 _INDEX = "create index if not exists tiles_not_accepted on tiles (verdict, cause, z) where verdict <> 'accepted'"
@@ -38,8 +40,9 @@ _ADD_CELLS = """insert into main.cells select * from {block}.cells where true
  on conflict do update set tiles = tiles + excluded.tiles, broken = broken + excluded.broken"""
 
 # By what tiles are counted, beside the store.
-COUNTED = ("z", "verdict", "cause", "cause_name", "layer_name")
+COUNTED = ("z", "verdict", "cause", "cause_name", "layer_name", "has_findings")
 NOTED = ("z", "note")
+FOUND = ("z", "finding")
 
 
 class ResultsError(Exception):
@@ -185,6 +188,8 @@ def _copy(database: sqlite3.Connection, name: str, block: Block) -> Added:
     database.execute(f"insert into main.tiles select * from {name}.tiles")
     _count(database, name, "counts", COUNTED, block.path)
     _count(database, name, "note_counts", NOTED, block.path)
+    _count(database, name, "finding_counts", FOUND, block.path)
+    findings.add_examples(database, name, block.path)
     database.execute(_ADD_CELLS.format(block=name))
     database.execute("insert into parts values (?, ?, ?)", (block.path, block.part, tiles))
     return Added(tiles, int(broken))

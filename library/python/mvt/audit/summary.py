@@ -1,7 +1,8 @@
-"""The end of a run: ten lines for a person, or JSON for a program."""
+"""The end of a run: a few lines for a person, or JSON for a program."""
 
 from typing import Any, Dict, List, NamedTuple, Sequence, Tuple
 
+from . import findings
 from .engine import Lost
 from .judging import ACCEPTED, BROKEN, EMPTY, NOT_UNPACKED, REFUSED, UNREAD, VERDICTS
 from .results import Results
@@ -30,6 +31,8 @@ def told(results: Results, timed: Timed, lost: Sequence[Lost]) -> Dict[str, Any]
         "select note, sum(tiles) from note_counts group by note order by sum(tiles) desc, note"
     ).fetchall()
     stores = results.database.execute("select path, kind, tiles from stores order by path").fetchall()
+    stumbled = _listed(results, ("z",), "has_findings")
+    unlinted = results.counted("verdict", f"verdict = '{ACCEPTED}' and has_findings is null")
     return {
         "stores": [{"path": path, "kind": kind, "tiles": tiles} for path, kind, tiles in stores],
         "tiles": sum(verdicts.values()),
@@ -38,6 +41,10 @@ def told(results: Results, timed: Timed, lost: Sequence[Lost]) -> Dict[str, Any]
         "zooms": _listed(results, ("z",), BROKEN),
         "layers": _listed(results, ("layer_name",), f"verdict = '{REFUSED}' and layer_name is not null"),
         "notes": dict(notes),
+        "with_findings": sum(each["tiles"] for each in stumbled),
+        "findings": [kind.told() for kind in findings.kinds(results.database)],
+        "finding_zooms": stumbled,
+        "unlinted": sum(tiles for _, tiles in unlinted),
         "unfinished": [part._asdict() for part in lost],
         "seconds": {"start": round(timed.start, 2), "work": round(timed.work, 2), "client": round(timed.client, 2)},
         "tiles_this_time": timed.tiles,
@@ -66,16 +73,22 @@ def _few(counts: Sequence[Tuple[str, int]]) -> str:
 
 
 def lines(found: Dict[str, Any], files: Sequence[str]) -> List[str]:
-    """The ten lines."""
+    """The eleven lines, or twelve."""
     verdicts, seconds = found["verdicts"], found["seconds"]
     stores = ", ".join(store["path"] for store in found["stores"][:3])
     more = len(found["stores"]) - 3
     layers = [(each["layer_name"], each["tiles"]) for each in found["layers"]]
-    zooms = [("-" if each["z"] is None else str(each["z"]), each["tiles"]) for each in found["zooms"]]
+    stumbled = _few([(each["finding"], each["tiles"]) for each in found["findings"]])
+    unlinted = f"{found['unlinted']:,} too large to be looked at" if found["unlinted"] else ""
     rows = [
         (found["tiles"], "tiles", stores + (f" and {more} more" if more > 0 else "")),
         (verdicts[ACCEPTED], ACCEPTED, ""),
         (sum(found["notes"].values()), "notes", _few(list(found["notes"].items()))),
+        (
+            found["with_findings"],
+            f"with findings{', which break no rule' if stumbled else ''}",
+            "; ".join(filter(None, (stumbled, unlinted))),
+        ),
         (verdicts[EMPTY], EMPTY, ""),
         (verdicts[REFUSED], REFUSED, _few([(each["cause_name"], each["tiles"]) for each in found["causes"]])),
         (verdicts[NOT_UNPACKED], NOT_UNPACKED, ""),
@@ -84,8 +97,25 @@ def lines(found: Dict[str, Any], files: Sequence[str]) -> List[str]:
     width = len(f"{found['tiles']:,}")
     return [
         *(f"{count:>{width},} {name}{': ' + of if of else ''}" for count, name, of in rows),
-        f"broken, by zoom: {_few(zooms) or '-'}; by layer: {_few(layers) or '-'}",
+        f"broken, by zoom: {_few(_zooms(found['zooms'])) or '-'}; by layer: {_few(layers) or '-'}",
+        *_stumbled(found),
         f"{found['tiles_this_time']:,} tiles in {seconds['work']:.1f} s, {found['tiles_a_second']:,} a second;"
         f" the workers started in {seconds['start']:.1f} s",
         f"written: {', '.join(files)}",
     ]
+
+
+def _zooms(counts: Sequence[Dict[str, Any]]) -> List[Tuple[str, int]]:
+    return [("-" if each["z"] is None else str(each["z"]), each["tiles"]) for each in counts]
+
+
+def _stumbled(found: Dict[str, Any]) -> List[str]:
+    """Where tiles with findings are, and one of each kind; nothing where there is none."""
+    examples = [f"{each['finding']} in {_address(each['example'])}" for each in found["findings"]]
+    if not examples:
+        return []
+    return [f"with findings, by zoom: {_few(_zooms(found['finding_zooms']))}; such as {', '.join(examples)}"]
+
+
+def _address(example: Dict[str, Any]) -> str:
+    return str(example["name"]) if example["z"] is None else f"{example['z']}/{example['x']}/{example['y']}"

@@ -1,22 +1,21 @@
 """The page as HTML."""
 
-import shlex
 import time
 from html import escape
 from pathlib import Path
 from typing import Any, Dict, Iterable, List, Optional, Tuple
 from urllib.parse import quote
 
-from ..judging import ACCEPTED, EMPTY, NOT_UNPACKED, REFUSED, UNREAD, VERDICTS, Row
+from ..findings import MOST
+from ..judging import ACCEPTED, BROKEN, EMPTY, NOT_UNPACKED, REFUSED, UNREAD, VERDICTS
 from ..results import Results
 from ..stores import Store
 from . import pictures
 from .examples import Example, examples
 from .maps import maps
+from .pieces import command, heading, table, zooms
+from .stumbles import stumbles
 from .words import counted, marked, meaning, rows
-
-# Of long tables the rest is counted.
-LONGEST = 40
 
 MEANINGS = {
     ACCEPTED: "keeps every rule",
@@ -28,9 +27,6 @@ MEANINGS = {
 
 # The page needs nothing but itself, and runs nothing.
 _POLICY = "default-src 'none'; style-src 'unsafe-inline'; img-src data:"
-
-# A row of a table: what is counted, as HTML, and how many there are.
-Line = Tuple[str, int]
 
 
 def page(results: Results, stores: Dict[str, Store], found: Dict[str, Any]) -> str:
@@ -48,6 +44,7 @@ def page(results: Results, stores: Dict[str, Store], found: Dict[str, Any]) -> s
         _counts(results, found),
         _maps(results),
         *_causes(results, stores, found),
+        *stumbles(results, stores),
         "</body></html>\n",
     ]
     return "\n".join(part for part in parts if part)
@@ -63,32 +60,19 @@ def _head(found: Dict[str, Any]) -> str:
         said += "; the audit isn't complete"
     stores = ", ".join(f"<code>{escape(store['path'])}</code>" for store in found["stores"])
     when = time.strftime("%Y-%m-%d %H:%M")
-    return f'<p class="quiet">{stores}, {when}</p><p class="verdict {"bad" if broken else "good"}">{said}.</p>'
+    verdict = f'<p class="quiet">{stores}, {when}</p><p class="verdict {"bad" if broken else "good"}">{said}.</p>'
+    return verdict + _head_of_findings(found)
 
 
-def _table(title: str, head: str, lines: Iterable[Line], whole: int, calm: Tuple[str, ...] = ()) -> str:
-    """A table of counts, each with its share of a whole as a bar."""
-    held = list(lines)
-    if not held:
-        return ""
-    cells = []
-    for name, tiles in held[:LONGEST]:
-        share = 100 * tiles / max(whole, 1)
-        kind = "bar calm" if name in calm else "bar"
-        bar = f'<span style="width:{share:.1f}%"></span>' if tiles else ""
-        cells.append(
-            f'<tr><th scope="row">{name}</th><td class="number">{tiles:,}</td><td class="number">{_share(share)}</td>'
-            f'<td class="{kind}">{bar}</td></tr>'
-        )
-    more = f'<p class="quiet">and {len(held) - LONGEST:,} more, in audit.sqlite</p>' if len(held) > LONGEST else ""
-    return (
-        f"<section><h2>{title}</h2><table><thead><tr><th>{head}</th><th class=\"number\">Tiles</th>"
-        f'<th class="number">Share</th><th></th></tr></thead><tbody>{"".join(cells)}</tbody></table>{more}</section>'
-    )
-
-
-def _share(percent: float) -> str:
-    return "0 %" if percent == 0 else "below 0.1 %" if percent < 0.1 else f"{percent:.1f} %"
+def _head_of_findings(found: Dict[str, Any]) -> str:
+    said = ""
+    if found["findings"]:
+        tiles = counted(found["with_findings"], "good tile")
+        said = f'<p>No rule is broken by <a href="#findings">{tiles}</a> that viewers may stumble over.</p>'
+    if found["unlinted"]:
+        tiles = counted(found["unlinted"], "good tile")
+        said += f'<p class="quiet">In {tiles} of more than {MOST:,} bytes nothing was looked for that viewers stumble over.</p>'
+    return said
 
 
 def _counts(results: Results, found: Dict[str, Any]) -> str:
@@ -98,12 +82,15 @@ def _counts(results: Results, found: Dict[str, Any]) -> str:
     causes = [(_link(each["cause"], each["cause_name"]), each["tiles"]) for each in found["causes"]]
     layers = [(escape(each["layer_name"]) or "(without a name)", each["tiles"]) for each in found["layers"]]
     notes = list(found["notes"].items())
+    findings = [(f'<a href="#finding-{each["finding"]}">{each["finding"]}</a>', each["tiles"]) for each in found["findings"]]
     tables = [
-        _table("Tiles", "Verdict", verdicts, tiles, (named[ACCEPTED], named[EMPTY])),
-        _table("By cause", "The first rule that a tile breaks", causes, refused),
-        _zooms(results),
-        _table("By layer", "The layer of the first fault", layers, refused),
-        _table("Notes", "Allowed, and worth a look", notes, tiles, tuple(found["notes"])),
+        table("Tiles", "Verdict", verdicts, tiles, (named[ACCEPTED], named[EMPTY])),
+        table("By cause", "The first rule that a tile breaks", causes, refused),
+        zooms("By zoom", "Broken", dict(results.counted("z", BROKEN)), dict(results.counted("z"))),
+        table("By layer", "The layer of the first fault", layers, refused),
+        table("Notes", "Allowed, and worth a look", notes, tiles, tuple(found["notes"])),
+        table("Findings", "No rule is broken, yet viewers stumble", findings, tiles, tuple(name for name, _ in findings)),
+        _zooms_of_findings(results, found),
     ]
     return f'<div class="columns">{"".join(tables)}</div>'
 
@@ -112,22 +99,12 @@ def _link(cause: int, name: str) -> str:
     return f'<a href="#cause-{cause}">{escape(name)}</a>'
 
 
-def _zooms(results: Results) -> str:
-    """Of each zoom how many tiles are broken, and of how many."""
-    total: Dict[Optional[int], int] = dict(results.counted("z"))
-    broken: Dict[Optional[int], int] = dict(results.counted("z", f"verdict not in ('{ACCEPTED}', '{EMPTY}')"))
-    cells = []
-    for z in sorted(total, key=lambda z: (z is None, z)):
-        share = 100 * broken.get(z, 0) / total[z]
-        bar = f'<span style="width:{share:.1f}%"></span>' if share else ""
-        cells.append(
-            f'<tr><th scope="row">{"unknown" if z is None else z}</th><td class="number">{broken.get(z, 0):,} of'
-            f' {total[z]:,}</td><td class="number">{_share(share)}</td><td class="bar">{bar}</td></tr>'
-        )
-    return (
-        '<section><h2>By zoom</h2><table><thead><tr><th>Zoom</th><th class="number">Broken</th>'
-        f'<th class="number">Share</th><th></th></tr></thead><tbody>{"".join(cells)}</tbody></table></section>'
-    )
+def _zooms_of_findings(results: Results, found: Dict[str, Any]) -> str:
+    if not found["findings"]:
+        return ""
+    some = dict(results.counted("z", "has_findings"))
+    good = {z: tiles for z, tiles in results.counted("z", f"verdict = '{ACCEPTED}'") if z in some}
+    return zooms("Findings, by zoom", "Good tiles with findings", some, good, is_calm=True)
 
 
 def _maps(results: Results) -> str:
@@ -166,11 +143,7 @@ def _causes(results: Results, stores: Dict[str, Store], found: Dict[str, Any]) -
 
 def _example(example: Example, stores: Dict[str, Store]) -> str:
     row, fault = example.row, example.fault()
-    where = row.name if row.z is None else f"{row.z}/{row.x}/{row.y}"
-    title = escape(f"{Path(example.store).name}: {where}" if len(stores) > 1 else str(where))
-    if example.link is not None:
-        title = f'<a href="{escape(example.link)}">{title}</a>'
-    said = [f"<h4>{title}{escape(_within(example))}</h4>", _command(row, stores[example.store])]
+    said = [heading(example.store, row, _within(example), stores, example.link), command(row, stores[example.store])]
     if example.content is None:
         return f'<article>{"".join(said)}<p>{escape(row.notes or example.why)}</p></article>'
     if fault is None:
@@ -183,14 +156,6 @@ def _example(example: Example, stores: Dict[str, Store]) -> str:
     said.append(f'<p class="quiet">{"; ".join(filter(None, told))}</p>')
     shown = "".join(_pictures(example.content, fault)) + _bytes(example.content, (fault.start or 0, fault.end or 0))
     return f'<article>{"".join(said)}<div class="shown">{shown}</div></article>'
-
-
-def _command(row: Row, store: Store) -> str:
-    """The command that opens a tile; nothing for one without a place. A link can't be: the page's address is secret."""
-    if row.z is None:
-        return ""
-    command = shlex.join(["mvt-page", store.path, f"{row.z}/{row.x}/{row.y}", *store.options()])
-    return f'<p class="quiet">To look into it: <code>{escape(command)}</code></p>'
 
 
 def _within(example: Example) -> str:

@@ -1,4 +1,4 @@
-"""Faults in plain words, which are the library's, and the bytes round their places."""
+"""Faults in plain words, which are the library's, and the bytes round their places; and findings in words."""
 
 from typing import List, NamedTuple, Tuple
 
@@ -20,6 +20,44 @@ def marked(start: int, end: int) -> str:
     if start == end:
         return f"The place is before byte {start:,}."
     return f"Marked: bytes {start:,} to {end - 1:,}." if end - start > 1 else f"Marked: byte {start:,}."
+
+
+# Of each finding when it is told, and what happens in which viewer, as docs/PROGRAM.md has it.
+_FINDINGS = {
+    "ZeroExtent": (
+        "a layer's extent is 0",
+        "Mapbox GL and QGIS draw no line and no polygon of the layer",
+    ),
+    "NoGeometry": (
+        "a feature of unknown type has no integers",
+        "a line layer of Mapbox GL ends the whole viewer",
+    ),
+    "UnknownGeometry": (
+        "a feature of unknown type has integers",
+        "Mapbox GL drops the whole tile where the integers draw nothing, and else draws a point by a circle layer; QGIS draws"
+        " nothing",
+    ),
+    "FarPoint": (
+        "the first position of the feature that leaves 16 bits (-32768 to 32767) in 8192ths of the extent, rounded to the"
+        " nearest, halves away from 0; none in a layer whose extent is 0",
+        "Mapbox GL leaves the position out, so a line or a polygon is another one; where a point is left out, a line layer ends"
+        " the whole viewer",
+    ),
+    "LargeId": (
+        "an id is beyond 2^53 - 1",
+        "Mapbox GL and QGIS draw the feature; a number of JavaScript can't tell the id from its neighbours",
+    ),
+    "LargeNumber": (
+        "an int, a uint or a sint is beyond 2^53 - 1 to either side",
+        "Mapbox GL and QGIS draw the feature; a number of JavaScript can't tell it from its neighbours",
+    ),
+}
+
+
+def stumbling(kind: str) -> str:
+    """What a kind of finding is, and what happens in which viewer."""
+    when, happens = _FINDINGS[kind]
+    return f"{when[0].upper()}{when[1:]}: {happens}."
 
 
 class Run(NamedTuple):
