@@ -12,7 +12,7 @@ from pathlib import Path
 from PIL import Image
 
 SIZE = 512
-SCREENS = itertools.count(100)  # a screen of its own for each picture
+SCREENS = itertools.count(100 + os.getpid() % 1000 * 20)  # a screen of its own for each picture
 COLOURS = ["#00aa00", "#aa0000", "#0000aa", "#aa7700"]
 PAINT = {"fill": lambda c: {"fill-color": c, "fill-antialias": False},
          "line": lambda c: {"line-color": c, "line-width": 2},
