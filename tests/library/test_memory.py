@@ -8,10 +8,13 @@ import unittest
 from pathlib import Path
 
 import mvt
+from mvt._mvt import looked_at
 
 TILES = Path(__file__).resolve().parents[2] / "examples" / "tiles"
 TILE = (TILES / "gdal.mvt").read_bytes()
 BROKEN = (TILES / "broken" / "20-ZeroSegment.mvt").read_bytes()
+# A feature of unknown type without integers, which viewers stumble over, and a layer without features, which is noted.
+FOUND = bytes.fromhex("1a077802 0a0161 1200 1a057802 0a0162")
 WHOLE = mvt.read(TILE)
 ROWS = mvt.rows(TILE)
 REFUSING = sys.argv[1] if len(sys.argv) > 1 and sys.argv[1].endswith(".so") else None
@@ -59,6 +62,7 @@ GOOD = (
     lambda: mvt.write(WHOLE),
     lambda: mvt.write(ROWS),
     lambda: mvt.report(TILE),
+    lambda: [looked_at(tile, lints) for tile in (TILE, FOUND, BROKEN) for lints in (True, False)],
     lambda: mvt.rewrite(TILE),
     lambda: mvt.to_json(TILE),
     lambda: mvt.to_svg(TILE),
