@@ -11,6 +11,7 @@ import { Finder } from './near.js';
 import { Painter } from './painter.js';
 import { findingsOf } from './report.js';
 import { SHAPES } from './rows.js';
+import { styled } from './styled.js';
 import { text } from './text.js';
 
 /** So many bytes, or so many files, are judged by one question. */
@@ -184,18 +185,13 @@ export class Desk {
     return names.length === 0 ? { status: NO_LAYER } : this.#tile.extract(names);
   }
 
-  /** The library's picture, with the page's colours and without the layers that are off; rings are filled as on the page. */
+  /** The library's picture, with the page's colours round it and without the layers that are off; where no rows are, as it is. */
   async #svg(hidden, colourOf) {
     const answer = await this.#tile.svg();
-    if (answer.status !== OK) return answer;
-    const drawn = Array.from({ length: this.#rows.layerCount }, (_, index) => index).filter((index) => this.#rows.layerBox(index).version === 2);
-    let next = 0;
-    const made = text(answer.bytes).replace('fill-rule:evenodd', 'fill-rule:nonzero').replace(/^<svg color="[^"]*"/gm, () => {
-      const index = drawn[next];
-      next += 1;
-      return `<svg${hidden[index] === 1 ? ' display="none"' : ''} color="${colourOf(index)}"`;
-    });
-    return { status: OK, bytes: new TextEncoder().encode(made) };
+    if (answer.status !== OK || this.#rows === null) return answer;
+    const indices = Array.from({ length: this.#rows.layerCount }, (_, index) => index);
+    const drawn = indices.filter((index) => this.#rows.layerBox(index).version === 2);
+    return { status: OK, bytes: styled(answer.bytes, drawn.map((index) => (hidden[index] === 1 ? null : colourOf(index)))) };
   }
 
   /** Makes the JSON: how many bytes and layers it has. */

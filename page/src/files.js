@@ -42,7 +42,8 @@ async function unpacked(bytes, format) {
   return joined(parts, length).subarray(0, MOST);
 }
 
-function joined(parts, length) {
+/** Parts behind each other, which have so many bytes. */
+export function joined(parts, length) {
   const all = new Uint8Array(length);
   let at = 0;
   for (const part of parts) {

@@ -17,6 +17,7 @@ import { Rows } from '../../page/src/rows.js';
 import { spelledBytes, spelledOffset } from '../../page/src/spelled.js';
 import { answerOf, explainedOf, framesOf, partsOf, rowsOf } from '../../page/src/spelling.js';
 import { sortedInSteps, withOthers } from '../../page/src/steps.js';
+import { styled } from '../../page/src/styled.js';
 import { WAYS, placeOf, verdictOfRow, wayFrom, wayOfKey } from '../../page/src/stored.js';
 import { grouped } from '../../page/src/text.js';
 import { WHOLE, moved, transformOf, viewOf, zoomed } from '../../page/src/view.js';
@@ -118,6 +119,12 @@ const json = new JsonIndex(new TextEncoder().encode('{"layers":[{"extent":4096,"
 await is('the layers of JSON', json.layers(0, 9), [{ json: '{"extent":4096,"features":[],"name":"x"}', features: 2 }, { json: '{"foreign":{"length":4,"version":1}}', features: 0 }]);
 await is('the features of JSON', json.features(0, 0, 9).map((each) => each.json), ['{"a":"{[\\"","g":{"points":[[1,2]]}}', '{"a":{}}']);
 await is('coloured JSON is what it was', coloured(laidOut('{"a": ["b\\"", -1, true]}')).join(''), '{"a": ["b\\"", -1, true]}');
+
+// ---- a saved picture: a style round the library's
+
+await is('a picture in colours', Buffer.from(styled(Uint8Array.of(0x3c, 0xff), ['#f51c35', null])).toString('latin1'), [
+  '<svg xmlns="http://www.w3.org/2000/svg" viewBox="0 0 1 1">', '<style>path.polygons{fill-rule:nonzero}', 'svg>svg>svg:nth-of-type(1){color:#f51c35}',
+  'svg>svg>svg:nth-of-type(2){display:none}</style>', '<\xff', '</svg>'].join('\n'));
 
 // ---- floats: patterns of IEEE 754
 
