@@ -1,14 +1,12 @@
 // The proved library, asked of the server that served the page. Its calls are those of library/mvt.h; how they are spelled
 // is told in library/python/mvt/page/calls.py.
+import { STATUS } from './layout.js';
 import { answerOf, explainedOf, framesOf, partsOf, rowsOf } from './spelling.js';
 
 /** A tile has at most so many bytes. Of a longer input the library reads no more. */
 export const LIMIT = 67_108_864;
 
-export const OK = 0;
-export const NO_MEMORY = 2;
-export const TOO_LARGE = 3;
-export const NO_LAYER = 4;
+export const { OK, NO_MEMORY, TOO_LARGE, NO_LAYER } = STATUS;
 
 /** What is thrown once the server has ended. */
 export class Gone extends Error {

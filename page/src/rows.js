@@ -1,21 +1,30 @@
 // The rows of a tile (library/mvt.h), read where they lie in the library's memory. Spans are read by their lower 32 bits:
 // no list of a tile of 64 MiB is longer.
 import { floatText } from './floats.js';
+import { FEATURE_ROW, KIND, LAYER_ROW, PART_ROW, POINT_ROW, SPAN_ROW, VALUE_KIND, VALUE_ROW } from './layout.js';
 import { text } from './text.js';
 
-/** How many words of 32 bits a row has. */
-const LAYER = 22;
-const FEATURE = 16;
-const SPAN = 4;
-const VALUE = 8;
-const PART = 6;
+export const { UNKNOWN, POINTS, LINES, POLYGONS } = KIND;
+export const SHAPES = wordsOf(KIND);
+const VALUE_KINDS = { ...wordsOf(VALUE_KIND), [VALUE_KIND.TEXT]: 'string' };
 
-export const UNKNOWN = 0;
-export const POINTS = 1;
-export const LINES = 2;
-export const POLYGONS = 3;
-export const SHAPES = ['unknown', 'points', 'lines', 'polygons'];
-const VALUE_KINDS = { 1: 'string', 2: 'float', 3: 'double', 4: 'int', 5: 'uint', 6: 'sint', 7: 'bool' };
+/** The names of numbers in small letters, each at its number. */
+function wordsOf(numbers) {
+  const named = [];
+  for (const [name, number] of Object.entries(numbers)) named[number] = name.toLowerCase();
+  return named;
+}
+
+/** The span that begins at a word. */
+function spanAt(words, at) {
+  return { start: words[at + SPAN_ROW.start], len: words[at + SPAN_ROW.len] };
+}
+
+/** The first row of the span that begins at a word, and the one behind the last. */
+function endsAt(words, at) {
+  const start = words[at + SPAN_ROW.start];
+  return [start, start + words[at + SPAN_ROW.len]];
+}
 
 export class Rows {
   #lists;
@@ -27,13 +36,14 @@ export class Rows {
     this.#buffer = memory().buffer;
     this.memory = memory();
     const words = ({ at, count }, width) => new Uint32Array(this.#buffer, at, count * width);
-    this.layerWords = words(lists.layers, LAYER);
-    this.featureWords = words(lists.features, FEATURE);
-    this.partWords = words(lists.parts, PART);
+    this.layerWords = words(lists.layers, LAYER_ROW.words);
+    this.featureWords = words(lists.features, FEATURE_ROW.words);
+    this.partWords = words(lists.parts, PART_ROW.words);
     this.tags = words(lists.tags, 1);
-    this.points = new Int32Array(this.#buffer, lists.points.at, lists.points.count * 2);
-    this.keyWords = words(lists.keys, SPAN);
-    this.valueWords = words(lists.values, VALUE);
+    // x and y of one position behind those of another, as POINT_ROW says
+    this.points = new Int32Array(this.#buffer, lists.points.at, lists.points.count * POINT_ROW.words);
+    this.keyWords = words(lists.keys, SPAN_ROW.words);
+    this.valueWords = words(lists.values, VALUE_ROW.words);
   }
 
   get layerCount() {
@@ -51,30 +61,31 @@ export class Rows {
   /** How many layers are of another version than 2. */
   get foreignCount() {
     let count = 0;
-    for (let at = 0; at < this.layerWords.length; at += LAYER) count += this.layerWords[at] === 2 ? 0 : 1;
+    for (let index = 0; index < this.layerCount; index += 1) count += this.#versionOf(index) === 2 ? 0 : 1;
     return count;
   }
 
   layer(index) {
-    const at = LAYER * index;
+    const at = LAYER_ROW.words * index;
     const words = this.layerWords;
     return {
       index,
-      version: words[at],
-      extent: words[at + 1],
-      name: this.#text(words[at + 2], words[at + 4]),
-      features: { start: words[at + 6], len: words[at + 8] },
-      keys: { start: words[at + 10], len: words[at + 12] },
-      values: { start: words[at + 14], len: words[at + 16] },
-      bytes: words[at + 20],
+      version: words[at + LAYER_ROW.version],
+      extent: words[at + LAYER_ROW.extent],
+      name: this.#text(words, at + LAYER_ROW.name),
+      features: spanAt(words, at + LAYER_ROW.features),
+      keys: spanAt(words, at + LAYER_ROW.keys),
+      values: spanAt(words, at + LAYER_ROW.values),
+      bytes: words[at + LAYER_ROW.bytes + SPAN_ROW.len],
     };
   }
 
   /** What of a layer drawing wants: no text is made. */
   layerBox(index) {
-    const at = LAYER * index;
-    const start = this.layerWords[at + 6];
-    return { version: this.layerWords[at], extent: this.layerWords[at + 1], start, end: start + this.layerWords[at + 8] };
+    const at = LAYER_ROW.words * index;
+    const words = this.layerWords;
+    const [start, end] = endsAt(words, at + LAYER_ROW.features);
+    return { version: words[at + LAYER_ROW.version], extent: words[at + LAYER_ROW.extent], start, end };
   }
 
   /** How many positions the features of a layer's box have. */
@@ -90,8 +101,7 @@ export class Rows {
     let low = 0;
     for (let high = this.layerCount - 1; low < high;) {
       const middle = (low + high + 1) >> 1;
-      if (this.layerWords[LAYER * middle + 6] <= feature && this.layerWords[LAYER * middle] === 2) low = middle;
-      else if (this.#nextStart(middle) <= feature) low = middle;
+      if (this.#nextStart(middle) <= feature) low = middle;
       else high = middle - 1;
     }
     return low;
@@ -99,32 +109,35 @@ export class Rows {
 
   // A layer of another version has no features, and its span may begin at 0: the next one of version 2 tells.
   #nextStart(from) {
-    for (let at = from; at < this.layerCount; at += 1) {
-      if (this.layerWords[LAYER * at] === 2) return this.layerWords[LAYER * at + 6];
+    for (let index = from; index < this.layerCount; index += 1) {
+      if (this.#versionOf(index) === 2) return this.layerWords[LAYER_ROW.words * index + LAYER_ROW.features + SPAN_ROW.start];
     }
     return Infinity;
   }
 
+  #versionOf(index) {
+    return this.layerWords[LAYER_ROW.words * index + LAYER_ROW.version];
+  }
+
   shapeOf(feature) {
-    return this.featureWords[FEATURE * feature + 3];
+    return this.featureWords[FEATURE_ROW.words * feature + FEATURE_ROW.kind];
   }
 
   /** The parts of a feature: the first and the one behind the last. */
   partsOf(feature) {
-    const start = this.featureWords[FEATURE * feature + 8];
-    return [start, start + this.featureWords[FEATURE * feature + 10]];
+    return endsAt(this.featureWords, FEATURE_ROW.words * feature + FEATURE_ROW.parts);
   }
 
   /** The points of a part: the first and the one behind the last. */
   pointsOf(part) {
-    const start = this.partWords[PART * part + 2];
-    return [start, start + this.partWords[PART * part + 4]];
+    return endsAt(this.partWords, PART_ROW.words * part + PART_ROW.points);
   }
 
   idOf(feature) {
-    const at = FEATURE * feature;
-    if (this.featureWords[at + 2] !== 1) return null;
-    return (BigInt(this.featureWords[at + 1]) << 32n) | BigInt(this.featureWords[at]);
+    const at = FEATURE_ROW.words * feature;
+    if (this.featureWords[at + FEATURE_ROW.has_id] !== 1) return null;
+    const low = at + FEATURE_ROW.id;
+    return (BigInt(this.featureWords[low + 1]) << 32n) | BigInt(this.featureWords[low]);
   }
 
   /** A feature by its place among all, to be told. */
@@ -132,7 +145,7 @@ export class Rows {
     const layer = this.layer(this.layerOf(place));
     const [first, end] = this.partsOf(place);
     let points = 0;
-    for (let part = first; part < end; part += 1) points += this.partWords[PART * part + 4];
+    for (let part = first; part < end; part += 1) points += spanAt(this.partWords, PART_ROW.words * part + PART_ROW.points).len;
     return {
       place,
       layer: layer.index,
@@ -143,14 +156,14 @@ export class Rows {
       attributes: this.attributes(layer, place),
       parts: end - first,
       points,
-      integers: this.featureWords[FEATURE * place + 14],
+      integers: spanAt(this.featureWords, FEATURE_ROW.words * place + FEATURE_ROW.integers).len,
     };
   }
 
   /** Each attribute of a feature, `{key, kind, text, bits}`; or the first few. */
   attributes(layer, place, most = Infinity) {
-    const start = this.featureWords[FEATURE * place + 4];
-    const pairs = Math.min(most, this.featureWords[FEATURE * place + 6] / 2);
+    const { start, len } = spanAt(this.featureWords, FEATURE_ROW.words * place + FEATURE_ROW.tags);
+    const pairs = Math.min(most, len / 2);
     return Array.from({ length: pairs }, (_, pair) => ({
       key: this.key(layer, this.tags[start + 2 * pair]),
       ...this.value(layer.values.start + this.tags[start + 2 * pair + 1]),
@@ -159,36 +172,37 @@ export class Rows {
 
   /** Key by key, the index of the value in the layer; called with each pair of tags. */
   eachTag(place, told) {
-    const start = this.featureWords[FEATURE * place + 4];
-    const end = start + this.featureWords[FEATURE * place + 6];
+    const [start, end] = endsAt(this.featureWords, FEATURE_ROW.words * place + FEATURE_ROW.tags);
     for (let at = start; at < end; at += 2) told(this.tags[at], this.tags[at + 1]);
   }
 
   key(layer, index) {
-    const at = SPAN * (layer.keys.start + index);
-    return this.#text(this.keyWords[at], this.keyWords[at + 2]);
+    return this.#text(this.keyWords, SPAN_ROW.words * (layer.keys.start + index));
   }
 
   /** A value by its place among all: its kind, its text, and of a float its bits. */
   value(place) {
-    const at = this.#lists.values.at + 4 * VALUE * place;
-    const kind = VALUE_KINDS[this.memory.getUint32(at, true)];
+    const at = VALUE_ROW.words * place;
+    const kind = VALUE_KINDS[this.valueWords[at + VALUE_ROW.kind]];
+    const bits = this.#lists.values.at + 4 * (at + VALUE_ROW.bits);
     switch (kind) {
       case 'string':
-        return { kind, text: this.#text(this.valueWords[VALUE * place + 4], this.valueWords[VALUE * place + 6]) };
+        return { kind, text: this.#text(this.valueWords, at + VALUE_ROW.text) };
       case 'float':
       case 'double':
-        return { kind, ...floatText(kind, this.memory.getBigUint64(at + 8, true)) };
+        return { kind, ...floatText(kind, this.memory.getBigUint64(bits, true)) };
       case 'uint':
-        return { kind, text: String(this.memory.getBigUint64(at + 8, true)) };
+        return { kind, text: String(this.memory.getBigUint64(bits, true)) };
       case 'bool':
-        return { kind, text: this.memory.getUint32(at + 8, true) === 1 ? 'true' : 'false' };
+        return { kind, text: this.memory.getUint32(bits, true) === 1 ? 'true' : 'false' };
       default:
-        return { kind, text: String(this.memory.getBigInt64(at + 8, true)) };
+        return { kind, text: String(this.memory.getBigInt64(bits, true)) };
     }
   }
 
-  #text(start, len) {
+  /** The text whose span begins at a word. */
+  #text(words, at) {
+    const { start, len } = spanAt(words, at);
     return text(new Uint8Array(this.#buffer, this.#lists.texts.at + start, len));
   }
 }

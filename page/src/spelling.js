@@ -1,10 +1,9 @@
 // How questions and answers are spelled (library/python/mvt/page/calls.py and frames.py): numbers are little-endian.
+import { ROW_SIZES, STATUS } from './layout.js';
 import { text } from './text.js';
 
-export const REFUSED = 1;
+export const { REFUSED } = STATUS;
 
-/** The lists of rows in their order, with the bytes of a row (library/mvt.h). */
-const ROW_SIZES = { layers: 88, features: 64, keys: 16, values: 32, tags: 4, parts: 24, points: 8, integers: 4, texts: 1 };
 const COUNTS_AT = 8;
 const HEAD = 8;
 const FAULT_HEAD = 40;
