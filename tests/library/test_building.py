@@ -66,6 +66,16 @@ class Building(unittest.TestCase):
         self.assertEqual((first.keys.len, first.values.len, second.keys.len), (2, 10, 1))
         self.assertEqual(mvt.read(builder.finish())["a"].features[0].attributes, {"name": "y", "height": "x"})
 
+    def test_rows_are_those_of_the_bytes(self):
+        """Where keys and values come in the order in which features name them first."""
+        builder = mvt.Builder().layer("roads", extent=512)
+        builder.feature("lines", id=7).tag("name", "High Street").tag("lanes", 2).line([(0, 0), (5, 5)])
+        builder.feature("polygons").tag("lanes", 2).tag("kind", "x").ring([(0, 0), (8, 0), (8, 8)], exterior=True)
+        builder.foreign(1, bytes.fromhex("78010A0162")).layer("b").feature("unknown").tag("kind", 0.5).integers([9, 2])
+        rows, read = builder.rows(), mvt.rows(builder.finish())
+        for name in ("layers", "features", "keys", "values", "tags", "parts", "points", "integers", "texts"):
+            self.assertEqual(bytes(getattr(rows, name)), bytes(getattr(read, name)), name)
+
     def test_a_call_out_of_turn(self):
         point = ("point", 1, 1)
         for calls in (

@@ -1,5 +1,5 @@
 -- The rows that are read are those of the bytes, step by step.
-use Rattle.std.proofs.Common.{◌≡◌, ℕ, ◌+◌, ◌*◌, ◌≤◌, List, [], ◌∷◌, ◌++◌, length, take, refl, sym, ap, ap₂, ◌∙◌, subst, arith, length-append}
+use Rattle.std.proofs.Common.{◌≡◌, ℕ, ◌≤◌, List, [], ◌∷◌, ◌++◌, length, take, refl, sym, ap, ap₂, ◌∙◌, subst, arith, length-append}
 use Rattle.std.specs.List.{flat_map, fold}
 use Rattle.std.proofs.lemmas.List.{take-append-le, take_all}
 use Rattle.mvt_attrs.specs.declared.value.Attribute.{Attribute}
@@ -10,9 +10,7 @@ use Rattle.mvt_wire.specs.Field.{Content, varint, fixed64, bytes, fixed32, Entry
 use Rattle.mvt_wire.specs.Split.{split}
 use Rattle.mvt_wire.proofs.WireLaws.{packed_function_only, split_function_only}
 use Rattle.mvt_geometry.specs.declared.shape.Geometry.{Geometry}
-use Rattle.mvt_geometry.specs.declared.shape.Geometry.TheVariants.{Unknown, Points, Lines, Polygons}
 use Rattle.mvt_geometry.specs.Shape.{kind_of}
-use Rattle.mvt_geometry.specs.Visiting.{parts_of}
 use Rattle.mvt_feature.specs.declared.feature.Feature.{Feature}
 use Rattle.mvt_feature.specs.declared.feature_fields.FeatureFields.{FeatureFields}
 use Rattle.mvt_feature.specs.declared.numbers.feature.TheConstants.{TAGS}
@@ -20,18 +18,17 @@ use Rattle.mvt_feature.specs.FeatureRules.{joined, numbers_of}
 use Rattle.mvt_feature.specs.Features.{AreNumbers, IsFeatureOf, Joined}
 use Rattle.mvt_feature.specs.Selection.{only}
 use Rattle.mvt_message.specs.declared.item.Item.{Item}
-use Rattle.mvt_message.specs.declared.item.Item.TheVariants.{Layer, Foreign}
+use Rattle.mvt_message.specs.declared.item.Item.TheVariants.{Layer}
 use Rattle.mvt_message.specs.declared.item.Layer.{Layer as ALayer}
 use Rattle.mvt_message.specs.LayerFields.{keys_in, payloads_in as features_in, values_in}
 use Rattle.mvt_rows.specs.declared.places.Places.{Places}
-use Rattle.mvt_rows.specs.declared.rows.FeatureRow.{FeatureRow}
 use Rattle.mvt_rows.specs.declared.table.visiting.RowsVisitor.{RowsVisitor}
 use Rattle.mvt_rows.specs.ReadTables.{places_of, with_feature, read_table, with_features, with_item, with_items}
 use Rattle.mvt_rows.specs.Reading.{IsRead}
 use Rattle.mvt_tile.proofs.TileLaws.{tile_or_fault_once}
 use Rattle.mvt_rows.specs.Visiting.{HasRead, HasReadFeatures, HasReadValues, IsWithin}
-use Rattle.mvt_rows.specs.Tables.{Table, feature_row, no_rows, table_size, with_value, with_key, with_part, with_geometry, with_feature_row, with_layer_row, with_foreign, without_values}
-use Rattle.mvt_rows.proofs.TableLemmas.{geometry_keeps, value_push, value_row}
+use Rattle.mvt_rows.specs.Tables.{Table, no_rows, table_size, with_value, with_key, with_geometry, with_feature_row, with_layer_row, without_values}
+use Rattle.mvt_rows.proofs.TableLemmas.{value_push, value_row}
 
 -- the tags of a payload
 

@@ -251,8 +251,8 @@ values_add = record {
 
 pools_grow : (t : Table) (keys : List (List ℕ)) (values : List Given) → Grown t (with_pools t keys values)
 pools_grow t keys values =
-    grown_more t (fold with_key t keys) (with_pools t keys values) (grown_fold with_key key_grows t keys)
-    (grown_fold with_given given_grows (fold with_key t keys) values)
+    grown_more t (fold with_given t values) (with_pools t keys values) (grown_fold with_given given_grows t values)
+    (grown_fold with_key key_grows (fold with_given t values) keys)
 
 abbrev filled : Table → ToldLayer → Table
 filled t l = with_pools (with_told_features t l.features) l.keys l.values
@@ -268,24 +268,27 @@ told_layer_row t l = open_row (filled t l) l.name l.extent (places_of t)
 layer_is : (t : Table) (l : ToldLayer) (layer : ALayer) → IsToldLayer l layer → IsLayer (with_told_layer t l) (told_layer_row t l) layer
 layer_is t l layer is =
     let featured = with_told_features t l.features in
-    let keyed = fold with_key featured l.keys in
+    let valued = fold with_given featured l.values in
     let full = filled t l in
     let now = with_told_layer t l in
     let last = more_texts full now.layers l.name in
     let features = rows_added (features_add is.keys is.values) t l.features layer.features is.features in
-    let keys = rows_added keys_add featured l.keys is.keys is.keys_are in
-    let values = rows_added values_add keyed l.values is.values is.values_are in
+    let values = rows_added values_add featured l.values is.values is.values_are in
+    let keys = rows_added keys_add valued l.keys is.keys is.keys_are in
     let features_full : full.features ≡ t.features ++ features.0 =
-    fold_keeps (λ (u : Table). u.features) with_given (given_keeps (λ (u : Table). u.features) (λ u rows texts. refl)) keyed l.values
-    ∙ fold_keeps (λ (u : Table). u.features) with_key (λ u key. refl) featured l.keys ∙ features.1 in
+    fold_keeps (λ (u : Table). u.features) with_key (λ u key. refl) valued l.keys
+    ∙ fold_keeps (λ (u : Table). u.features) with_given (given_keeps (λ (u : Table). u.features) (λ u rows texts. refl)) featured
+    l.values
+    ∙ features.1 in
     let keys_full : full.keys ≡ t.keys ++ keys.0 =
-    fold_keeps (λ (u : Table). u.keys) with_given (given_keeps (λ (u : Table). u.keys) (λ u rows texts. refl)) keyed l.values
-    ∙ keys.1 ∙ ap (λ held. held ++ keys.0) (fold_keeps (λ (u : Table). u.keys) with_told_feature (λ u told. refl) t l.features) in
+    keys.1 ∙ ap (λ held. held ++ keys.0)
+    (fold_keeps (λ (u : Table). u.keys) with_given (given_keeps (λ (u : Table). u.keys) (λ u rows texts. refl)) featured l.values
+    ∙ fold_keeps (λ (u : Table). u.keys) with_told_feature (λ u told. refl) t l.features) in
     let values_full : full.values ≡ t.values ++ values.0 =
-    values.1 ∙ ap (λ held. held ++ values.0)
-    (fold_keeps (λ (u : Table). u.values) with_key (λ u key. refl) featured l.keys
-    ∙ fold_keeps (λ (u : Table). u.values) with_told_feature (λ u told. refl) t l.features) in
-    let keyed_to_now = grown_more keyed full now (grown_fold with_given given_grows keyed l.values) last in
+    fold_keeps (λ (u : Table). u.values) with_key (λ u key. refl) valued l.keys
+    ∙ values.1
+    ∙ ap (λ held. held ++ values.0) (fold_keeps (λ (u : Table). u.values) with_told_feature (λ u told. refl) t l.features) in
+    let valued_to_now = grown_more valued full now (grown_fold with_key key_grows valued l.keys) last in
     let featured_to_now = grown_more featured full now (pools_grow featured l.keys l.values) last in
     record {
       name = text_is full.texts l.name layer.name is.name;
@@ -293,11 +296,12 @@ layer_is t l layer is =
       keys = is.keys;
       has_keys = ap (option_and_then (each (text_of now.texts))) (part_added t.keys full.keys keys.0 keys_full)
           ∙ each_related (text_of now.texts) keys.0 is.keys
-          (related_weaker (IsKey keyed) (IsKey now) (text_stays keyed.texts now.texts keyed_to_now.texts) keys.0 is.keys keys.2);
+          (related_weaker (IsKey full) (IsKey now) (text_stays full.texts now.texts last.texts) keys.0 is.keys keys.2);
       values = is.values;
       has_values = ap (option_and_then (each (value_of now.texts))) (part_added t.values full.values values.0 values_full)
           ∙ each_related (value_of now.texts) values.0 is.values
-          (related_weaker (IsValue full) (IsValue now) (value_stays full.texts now.texts last.texts) values.0 is.values values.2);
+          (related_weaker (IsValue valued) (IsValue now) (value_stays valued.texts now.texts valued_to_now.texts) values.0 is.values
+          values.2);
       rows = features.0;
       has_rows = part_added t.features full.features features.0 features_full;
       features = related_weaker (IsFeature featured is.keys is.values) (IsFeature now is.keys is.values)
@@ -306,8 +310,8 @@ layer_is t l layer is =
 
 layers_kept : (t : Table) (l : ToldLayer) → (filled t l).layers ≡ t.layers
 layers_kept t l =
-    fold_keeps (λ (u : Table). u.layers) with_given (given_keeps (λ (u : Table). u.layers) (λ u rows texts. refl)) _ l.values
-    ∙ fold_keeps (λ (u : Table). u.layers) with_key (λ u key. refl) _ l.keys
+    fold_keeps (λ (u : Table). u.layers) with_key (λ u key. refl) _ l.keys
+    ∙ fold_keeps (λ (u : Table). u.layers) with_given (given_keeps (λ (u : Table). u.layers) (λ u rows texts. refl)) _ l.values
     ∙ fold_keeps (λ (u : Table). u.layers) with_told_feature (λ u told. refl) t l.features
 
 -- ---- items

@@ -1,5 +1,5 @@
--- The rows of what a builder was told. Each list has the parts of its kind in the order in which they came; of a layer first
--- its features, then its keys, its values and its name.
+-- The rows of what a builder was told. Each list has the parts of its kind in the order in which they came; of a layer its
+-- features, its values, its keys and its name, so that texts stand as in the rows that bytes are read as.
 use Rattle.std.specs.Prelude.{ℕ, ◌+◌, ◌==◌, List, [], ◌∷◌, ◌++◌, length, unwrap_or, is_some, if◌then◌else◌}
 use Rattle.std.specs.List.{fold, flat_map}
 use Rattle.mvt_rows.specs.declared.rows.FeatureRow.{FeatureRow}
@@ -57,9 +57,9 @@ with_given t value =
 abbrev pub with_told_features : Table → List ToldFeature → Table
 with_told_features t features = fold with_told_feature t features
 
--- and its keys and its values
+-- and its values and its keys
 abbrev pub with_pools : Table → List (List ℕ) → List Given → Table
-with_pools t keys values = fold with_given (fold with_key t keys) values
+with_pools t keys values = fold with_key (fold with_given t values) keys
 
 abbrev pub with_told_layer : Table → ToldLayer → Table
 with_told_layer t l = with_layer_row (with_pools (with_told_features t l.features) l.keys l.values) l.name l.extent (places_of t)

@@ -390,8 +390,8 @@ impl Builder {
     {
         self.end_feature()?;
         if let Turn::Layer = self.turn {
-            self.table.add_words(self.keys.entries())?;
             self.table.add_given(self.values.entries())?;
+            self.table.add_words(self.keys.entries())?;
             self.table
                 .add_named_row(self.name.as_bytes(), self.extent, self.layer_at)?;
             self.turn = Turn::Nothing;

@@ -1,6 +1,5 @@
-use Rattle.std.proofs.Common.{◌≡◌, List, [], ◌∷◌, ◌++◌, refl, sym, ap, ◌∙◌, subst}
+use Rattle.std.proofs.Common.{◌≡◌, [], ◌∷◌, ◌++◌, refl, sym, ap, ◌∙◌, subst}
 use Rattle.mvt_wire.specs.Split.{split}
-use Rattle.mvt_message.specs.declared.item.Item.{Item}
 use Rattle.mvt_message.specs.declared.item.Item.TheVariants.{Layer as ALayer, Foreign as AForeign}
 use Rattle.mvt_message.specs.declared.visiting.Visited.TheVariants.{Layer, Foreign}
 use Rattle.mvt_message.specs.Items.{IsItem}
@@ -10,7 +9,7 @@ use Rattle.mvt_message.specs.Visiting.{OfFeatures}
 use Rattle.mvt_rows.specs.declared.places.Places.{Places}
 use Rattle.mvt_rows.specs.declared.table.visiting.RowsVisitor.{RowsVisitor}
 use Rattle.mvt_rows.specs.ReadTables.{with_item}
-use Rattle.mvt_rows.specs.Tables.{Table, with_foreign, with_layer_row, without_values}
+use Rattle.mvt_rows.specs.Tables.{with_foreign, with_layer_row, without_values}
 use Rattle.mvt_rows.specs.Visiting.{AreItemRows, AreLayerRows, Before, HasReadFeatures}
 use Rattle.mvt_rows.proofs.ReadTableLemmas.{is_within, item_read, layer_read, values_kept}
 use Rattle.mvt_rows.proofs.VisitLemmas.{layer_opened, layer_ends, foreign_ends, was_layer, was_foreign}
