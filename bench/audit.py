@@ -140,7 +140,7 @@ class Ready:
         return None
 
 
-def ready_part(store, _):
+def ready_part(store, *_):
     return Path(store.path).read_bytes()
 
 

@@ -130,8 +130,19 @@ class Stores(Case):
         make_tree(self.room / "tree", at_places([tile([b""]) + field(14, bytes(findings.MOST)), EVIDENCE["large-id"]]))
         status, out, _ = audit(self.room / "tree", "--into", self.into)
         self.assertEqual(status, 0)
-        self.assertIn("1 with findings, which break no rule: LargeId 1; 1 too large to be looked at\n", out)
-        self.assertIn("In 1 good tile of more than 4,000,000 bytes nothing was looked for", (self.into / "report.html").read_text())
+        self.assertIn("1 with findings, which break no rule: LargeId 1; 1 not looked at\n", out)
+        self.assertIn("In 1 good tile nothing was looked for", (self.into / "report.html").read_text())
+
+    def test_nothing_is_looked_for_where_nobody_asks(self):
+        broken, flat = example_tiles()["20-ZeroSegment"], layer("c", [])
+        make_tree(self.room / "tree", at_places([EVIDENCE["large-id"], EVIDENCE["large-id"] + flat, broken, b""]))
+        status, out, _ = audit(self.room / "tree", "--no-findings", "--into", self.into)
+        self.assertEqual(status, 1)
+        wanted = [("accepted", "", None, ""), ("accepted", "NoFeatures layer 2", None, ""), ("refused", "", None, ""), ("empty", "NoLayers", 0, "")]
+        self.assertEqual(rows(self.into, "select verdict, notes, findings, lint from tiles order by x"), wanted)
+        self.assertEqual(rows(self.into, "select has_findings, tiles from counts where verdict = 'accepted'"), [(None, 2)])
+        self.assertRegex(out, "(?m)^0 with findings: 2 not looked at$")
+        self.assertIn("In 2 good tiles nothing was looked for", (self.into / "report.html").read_text())
 
     def test_older_results_are_told(self):
         make_tree(self.room / "tree", at_places([b""]))
@@ -199,9 +210,9 @@ class Blocks(Case):
                 results.add(order)
                 tables.append(results.database.execute("select * from finding_examples order by finding").fetchall())
         self.assertEqual(tables[0], [
-            (store.path, 6, "FarPoint", 1, 0, None, SEVERAL_SAID.split("; ")[0]),
+            (store.path, 6, "FarPoint", 0, 1, None, SEVERAL_SAID.split("; ")[0]),  # the 65th tile
             (store.path, 6, "LargeId", 0, 0, None, "LargeId layer 0 feature 0"),
-            (store.path, 6, "NoGeometry", 1, 0, None, SEVERAL_SAID.split("; ")[1]),
+            (store.path, 6, "NoGeometry", 0, 1, None, SEVERAL_SAID.split("; ")[1]),
         ])
         self.assertEqual(tables[1:], tables[:1] * 2)
 

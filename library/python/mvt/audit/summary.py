@@ -79,7 +79,7 @@ def lines(found: Dict[str, Any], files: Sequence[str]) -> List[str]:
     more = len(found["stores"]) - 3
     layers = [(each["layer_name"], each["tiles"]) for each in found["layers"]]
     stumbled = _few([(each["finding"], each["tiles"]) for each in found["findings"]])
-    unlinted = f"{found['unlinted']:,} too large to be looked at" if found["unlinted"] else ""
+    unlinted = f"{found['unlinted']:,} not looked at" if found["unlinted"] else ""
     rows = [
         (found["tiles"], "tiles", stores + (f" and {more} more" if more > 0 else "")),
         (verdicts[ACCEPTED], ACCEPTED, ""),

@@ -6,7 +6,6 @@ from pathlib import Path
 from typing import Any, Dict, Iterable, List, Optional, Tuple
 from urllib.parse import quote
 
-from ..findings import MOST
 from ..judging import ACCEPTED, BROKEN, EMPTY, NOT_UNPACKED, REFUSED, UNREAD, VERDICTS
 from ..results import Results
 from ..stores import Store
@@ -71,7 +70,7 @@ def _head_of_findings(found: Dict[str, Any]) -> str:
         said = f'<p>No rule is broken by <a href="#findings">{tiles}</a> that viewers may stumble over.</p>'
     if found["unlinted"]:
         tiles = counted(found["unlinted"], "good tile")
-        said += f'<p class="quiet">In {tiles} of more than {MOST:,} bytes nothing was looked for that viewers stumble over.</p>'
+        said += f'<p class="quiet">In {tiles} nothing was looked for that viewers stumble over.</p>'
     return said
 
 
