@@ -222,7 +222,8 @@ class Words(unittest.TestCase):
         table = re.findall(r"^\| `lint (\w+).*?` \| (.*) \| (.*) \|$", Path(TOP, "docs", "PROGRAM.md").read_text(), re.MULTILINE)
         self.assertEqual([kind for kind, _, _ in table], list(KINDS))
         for kind, when, happens in table:
-            self.assertEqual(words.stumbling(kind), f"{when[0].upper()}{when[1:]}: {happens}.")
+            self.assertEqual(words.stumbling(kind).lower(), f"{when}. {happens}.".lower())
+        self.assertEqual(words.stumbling("NoGeometry"), "A feature of unknown type has no integers. A line layer of Mapbox GL ends the whole viewer.")
 
 
 if __name__ == "__main__":

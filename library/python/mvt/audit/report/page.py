@@ -67,7 +67,7 @@ def _head_of_findings(found: Dict[str, Any]) -> str:
     said = ""
     if found["findings"]:
         tiles = counted(found["with_findings"], "good tile")
-        said = f'<p>No rule is broken by <a href="#findings">{tiles}</a> that viewers may stumble over.</p>'
+        said = f'<p>Viewers may stumble over <a href="#findings">{tiles}</a>; no rule is broken there.</p>'
     if found["unlinted"]:
         tiles = counted(found["unlinted"], "good tile")
         said += f'<p class="quiet">In {tiles} nothing was looked for that viewers stumble over.</p>'

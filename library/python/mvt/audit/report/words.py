@@ -56,8 +56,7 @@ _FINDINGS = {
 
 def stumbling(kind: str) -> str:
     """What a kind of finding is, and what happens in which viewer."""
-    when, happens = _FINDINGS[kind]
-    return f"{when[0].upper()}{when[1:]}: {happens}."
+    return " ".join(f"{told[0].upper()}{told[1:]}." for told in _FINDINGS[kind])
 
 
 class Run(NamedTuple):
