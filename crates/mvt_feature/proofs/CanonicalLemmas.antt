@@ -123,7 +123,7 @@ canonical_value v h small =
 -- ---- features
 
 -- the plain fields of a number
-abbrev only_plain : ℕ → List Plain → List Plain
+abbrev pub only_plain : ℕ → List Plain → List Plain
 only_plain k [] = []
 only_plain k (p ∷ ps) = if p.number == k then p ∷ only_plain k ps else only_plain k ps
 
@@ -226,13 +226,13 @@ tags_joined xs [] small h = rw (none_of xs h) refl
 tags_joined xs (t ∷ ts) small h = packed_joined xs TAGS (t ∷ ts) small h
 
 pub feature_reads : (xs : List Entry) (keys : List (List ℕ)) (values : List Value) (tags : List ℕ) (f : Feature)
-    → map plain_of xs ≡ feature_fields tags f → Names keys values tags f.attributes → AllByRecursion (λ n. n < 2 ^ 32) tags
-    → ValidFeature f → AllByRecursion (λ n. n < 2 ^ 32) (drawn f.geometry) → IsFeature xs keys values f
+    → ((k : ℕ) → only_plain k (map plain_of xs) ≡ only_plain k (feature_fields tags f)) → Names keys values tags f.attributes
+    → AllByRecursion (λ n. n < 2 ^ 32) tags → ValidFeature f → AllByRecursion (λ n. n < 2 ^ 32) (drawn f.geometry) → IsFeature xs keys values f
 feature_reads xs keys values tags f is names small valid low =
     let kind = kind_of f.geometry in
     let integers = drawn f.geometry in
-    let ids = only_of_plain ID xs ∙ ap (only_plain ID) is ∙ ids_only f.id tags kind integers in
-    let types = only_of_plain TYPE xs ∙ ap (only_plain TYPE) is ∙ type_only f.id tags kind integers in
+    let ids = only_of_plain ID xs ∙ is ID ∙ ids_only f.id tags kind integers in
+    let types = only_of_plain TYPE xs ∙ is TYPE ∙ type_only f.id tags kind integers in
     record {
       forms = (
         all_only (λ (x : Entry). x.number) (λ (x : Entry). HasForm any_varint x.content) ID xs
@@ -247,12 +247,12 @@ feature_reads xs keys values tags f is names small valid low =
       tags = tags;
       tags_are =
           tags_joined (only TAGS xs) tags small
-          (only_of_plain TAGS xs ∙ ap (only_plain TAGS) is ∙ tags_only f.id tags kind integers);
+          (only_of_plain TAGS xs ∙ is TAGS ∙ tags_only f.id tags kind integers);
       attributes = record { named = names; distinct = valid.distinct };
       integers = integers;
       integers_are =
           packed_joined (only GEOMETRY xs) GEOMETRY integers low
-          (only_of_plain GEOMETRY xs ∙ ap (only_plain GEOMETRY) is ∙ integers_only f.id tags kind integers);
+          (only_of_plain GEOMETRY xs ∙ is GEOMETRY ∙ integers_only f.id tags kind integers);
       geometry = record { same_kind = type_last (only TYPE xs) kind types; valid = valid.drawn; spelled = refl };
     }
 
@@ -307,4 +307,4 @@ pub canonical_feature : (keys : List (List ℕ)) (values : List Value) (tags : L
     → length (spelled (feature_fields tags f)) < 2 ^ 64 → IsFeatureOf (spelled (feature_fields tags f)) keys values f
 canonical_feature keys values tags f valid names small fits =
     let found = spelled_whole_whole (feature_fields tags f) (feature_fit tags f valid.id fits) in
-    (found.0, found.1, feature_reads found.0 keys values tags f found.2 names small valid (drawn_small f.geometry valid.drawn))
+    (found.0, found.1, feature_reads found.0 keys values tags f (λ k. ap (only_plain k) found.2) names small valid (drawn_small f.geometry valid.drawn))

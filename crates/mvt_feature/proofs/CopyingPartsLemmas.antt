@@ -1,6 +1,7 @@
 -- Payloads of values and features that are canonical as they stand.
 use Rattle.std.proofs.Common.{◌≡◌, ℕ, zero, suc, ◌<◌, ◌^◌, true, false, List, [], ◌∷◌, ◌++◌, length, drop, None, refl, sym, ap, ap₂, subst, ◌∙◌, arith, append-nil}
 use Rattle.std.specs.Prelude.{IfSome}
+use Rattle.std.specs.List.{AllByRecursion}
 use Rattle.std.specs.Int.{w64, cast_signed}
 use Rattle.std.proofs.lemmas.Int.{of_z-to_z}
 use Rattle.std.proofs.Math.ListN.{drop_of_length-le}
@@ -17,12 +18,14 @@ use Rattle.mvt_geometry.specs.Shape.{kind_of}
 use Rattle.mvt_wire.specs.Field.{Content, varint, fixed64, bytes, fixed32}
 use Rattle.mvt_wire.specs.Spelling.{Plain, short_field, short_numbers, spelled}
 use Rattle.mvt_wire.specs.Zigzag.{unzig}
+use Rattle.mvt_feature.specs.declared.canonical_feature.CanonicalFeature.{CanonicalFeature}
 use Rattle.mvt_feature.specs.declared.canonical_feature.Parts.{Parts}
 use Rattle.mvt_feature.specs.declared.feature.Feature.{Feature}
 use Rattle.mvt_feature.specs.declared.numbers.feature.TheConstants.{TAGS, GEOMETRY}
 use Rattle.mvt_feature.specs.declared.numbers.value.TheConstants.{FLOAT, DOUBLE, INT, UINT, SINT, BOOL}
 use Rattle.mvt_feature.specs.Canonical.{plain, field_of_value, id_fields, tags_fields, type_fields, drawing_fields, feature_fields}
-use Rattle.mvt_feature.specs.Copying.{AreReady, IsCanonicalFeature, IsCanonicalValue, packed_tags, parts_fields}
+use Rattle.mvt_feature.specs.Copying.{AreReady, IsCanonicalAfter, IsCanonicalValue, packed_tags, parts_fields}
+use Rattle.mvt_feature.specs.Ordering.{IsOfParts, IsOfPartsAfter}
 use Rattle.mvt_feature.specs.Valid.{ValidValue}
 use Rattle.mvt_feature.proofs.RangeLemmas.{signed_range, code_range, attributes_valid}
 use Rattle.mvt_attrs.proofs.AttrsLaws.{attributes_or_fault_there, tags_stay}
@@ -74,11 +77,11 @@ tags_packed (tag ∷ tags) (x ∷ xs) is = ap (λ d. plain TAGS (bytes d) ∷ []
 pub feature_found : (Holds : Geometry → Type 0) (p : Parts) (keys : List (List ℕ)) (held : List Value) (tags ints : List ℕ)
     (geometry : Geometry)
     (used after : ℕ × ℕ) → AreReady keys held used → IfSome p.id (λ n. n < 2 ^ 64) → p.tags.now ≡ short_numbers tags
+    → AllByRecursion (λ n. n < 2 ^ 32) tags
     → p.integers.now ≡ short_numbers ints → tag_fault keys held tags ≡ None → Draws p.kind ints geometry → Holds geometry
     → ((attributes : List Attribute) → Names keys held tags attributes → AreFirstUses keys held attributes used.0 used.1 after)
-    → (f : Feature) × IsCanonicalFeature (spelled (parts_fields p)) keys held used after f × (f.id ≡ p.id) × (p.kind ≡ kind_of f.geometry)
-    × Holds f.geometry
-feature_found Holds p keys held tags ints geometry used after ready id tags_are ints_are no_tag_fault draws holds uses =
+    → (f : Feature) × IsOfParts p keys held used after f × (f.id ≡ p.id) × (p.kind ≡ kind_of f.geometry) × Holds f.geometry
+feature_found Holds p keys held tags ints geometry used after ready id tags_are small ints_are no_tag_fault draws holds uses =
     let (attributes, resolved) = attributes_or_fault_there keys held tags no_tag_fault in
     let f : Feature = record { id = p.id; attributes = attributes; geometry = geometry } in
     let places : tags ≡ tags_in keys held attributes =
@@ -98,9 +101,19 @@ feature_found Holds p keys held tags ints geometry used after ready id tags_are 
           drawn = draws.valid;
         };
         uses = uses attributes resolved.named;
-        spelled_as = ap spelled fields;
+        fields = fields;
+        named = subst (λ ts. Names keys held ts attributes) places resolved.named;
+        small = subst (AllByRecursion (λ n. n < 2 ^ 32)) places small;
       },
       refl,
       draws.same_kind,
       holds,
     )
+
+-- parts that stand in the canonical order
+pub parts_in_place : (Holds : Geometry → Type 0) (payload : List ℕ) (p : Parts) (keys : List (List ℕ)) (held : List Value) (used : ℕ × ℕ)
+    (known : CanonicalFeature) → payload ≡ spelled (parts_fields p) → IsOfPartsAfter p keys held used Holds known
+    → IsCanonicalAfter payload keys held used Holds known
+parts_in_place Holds payload p keys held used known is after ready =
+    let (f, of_parts, id, kind, holds) = after ready in
+    (f, record { valid = of_parts.valid; uses = of_parts.uses; spelled_as = is ∙ ap spelled of_parts.fields }, id, kind, holds)

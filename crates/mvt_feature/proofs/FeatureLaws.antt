@@ -6,6 +6,7 @@ pub use Rattle.mvt_feature.proofs.SaidLemmas.{value_said as value_function}
 pub use Rattle.mvt_feature.proofs.OrFaultLemmas.{feature_there as feature_or_fault_there, feature_keeps as feature_or_fault_clean, feature_once as feature_or_fault_once, feature_ordered as feature_fault_is_least_ordered, feature_least as feature_fault_is_least_least}
 pub use Rattle.mvt_feature.proofs.CanonicalLemmas.{canonical_value as canonical_reads_value, canonical_feature as canonical_reads_feature}
 pub use Rattle.mvt_feature.proofs.FeatureFieldsLemmas.{number_more}
+pub use Rattle.mvt_feature.proofs.OrderingLemmas.{contents_joined as fields_in_any_order_joined, contents_between as fields_in_any_order_between}
 pub use Rattle.mvt_feature.proofs.RangeLemmas.{value_valid as read_is_valid_value, feature_valid as read_is_valid_feature, attributes_valid as read_is_valid_attributes}
 use Rattle.std.specs.List.{AllByRecursion}
 use Rattle.std.specs.Prelude.{◌≡◌, List, [], ℕ, refl}

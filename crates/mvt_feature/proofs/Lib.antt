@@ -14,5 +14,6 @@ mod CopyingLemmas
 mod CopyingPartsLemmas
 mod ShortLemmas
 mod CanonicalLemmas
+mod OrderingLemmas
 mod ValidLemmas
 mod RangeLemmas

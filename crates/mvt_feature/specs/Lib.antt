@@ -17,3 +17,4 @@ pub mod Walks
 pub mod Inner
 pub mod Copying
 pub mod Drawn
+pub mod Ordering

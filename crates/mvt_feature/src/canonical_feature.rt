@@ -11,6 +11,7 @@ ghost use Rattle.mvt_wire.specs.Packed.{ArePacked};
 ghost use Rattle.mvt_wire.specs.Spelling.{short_numbers, spelled};
 ghost use Rattle.mvt_feature.specs.declared.canonical_feature.NotCanonical.TheVariants as causes;
 ghost use Rattle.mvt_feature.specs.Canonical.{plain, field_of_value, id_fields, type_fields};
+ghost use Rattle.mvt_feature.specs.Ordering.{IsOfPartsAfter};
 ghost use Rattle.mvt_feature.specs.Copying.{IsCanonicalValue, IsCanonicalAfter, packed_tags, parts_fields};
 ghost use Rattle.mvt_feature.specs.Valid.{ValidValue};
 
@@ -113,10 +114,10 @@ fn is_number(number: u32, content: u64) -> bool
 /// are no bytes.
 #[derive(Clone, Copy)]
 pub(crate) struct Parts<'a> {
-    id: Option<u64>,
-    tags: &'a [u8],
-    kind: Kind,
-    integers: &'a [u8],
+    pub(crate) id: Option<u64>,
+    pub(crate) tags: &'a [u8],
+    pub(crate) kind: Kind,
+    pub(crate) integers: &'a [u8],
 }
 
 fn parts_of(payload: &[u8]) -> Option<Parts<'_>>
@@ -169,12 +170,13 @@ fn tags_from(payload: &[u8], at: usize) -> Option<(&[u8], usize)>
     }
 }
 
+/// The known type that stands at an offset, and the offset after it.
 #[inline(always)]
-fn kind_from(payload: &[u8], at: usize) -> Option<(Kind, usize)>
+pub(crate) fn kind_from(payload: &[u8], at: usize) -> Option<(Kind, usize)>
     requires { at ≤ length payload.now }
     ensures front { IfSome result (λ found. drop at payload.now
         ≡ spelled (type_fields found.0) ++ drop found.1 payload.now) }
-    ensures within { IfSome result (λ found. found.1 ≤ length payload.now) }
+    ensures within { IfSome result (λ found. (at < found.1) × (found.1 ≤ length payload.now)) }
     ensures known { IfSome result (λ found. found.0 ≢ kinds.Unknown) }
 {
     let (number, after) = short_number_at(payload, at, feature::TYPE)?;
@@ -257,8 +259,8 @@ pub fn judge_canonical<V: GeometryVisitor>(
     }
 }
 
-/// The same for a payload that has these parts.
-fn judge_parts<V: GeometryVisitor>(
+/// The same for a payload that has these parts in the canonical order.
+pub(crate) fn judge_parts<V: GeometryVisitor>(
     alloc: Global,
     visitor: &mut V,
     parts: &Parts<'_>,
@@ -270,7 +272,7 @@ fn judge_parts<V: GeometryVisitor>(
     requires id { IfSome parts.now.id (λ n. n < 2 ^ 64) }
     requires kind { parts.now.kind ≢ kinds.Unknown }
     ensures found { IfOk result (λ known. (held : List AValue) → length held ≡ values
-        → IsCanonicalAfter (spelled (parts_fields parts.now)) keys.old held used
+        → IsOfPartsAfter parts.now keys.old held used
         (HasDrawn V.has_parts V.has_integers visitor.old visitor.new) known) }
     ensures told { IfErr result (λ error. error ≢ causes.Memory → (parts : List Part)
         × (begun : List APoint) × V.has_parts visitor.old parts begun visitor.new) }

@@ -25,11 +25,11 @@ use mvt_geometry::Kind;
 use mvt_wire::{Field, Fields, PackedError, Payload, append_packed};
 
 /// The tags of the fields as they mostly stand: each once, in this order.
-const ID_TAG: u8 = 8 * feature::ID as u8;
+pub(crate) const ID_TAG: u8 = 8 * feature::ID as u8;
 
-const TAGS_TAG: u8 = 8 * feature::TAGS as u8 + 2;
+pub(crate) const TAGS_TAG: u8 = 8 * feature::TAGS as u8 + 2;
 
-const TYPE_TAG: u8 = 8 * feature::TYPE as u8;
+pub(crate) const TYPE_TAG: u8 = 8 * feature::TYPE as u8;
 
 pub(crate) const GEOMETRY_TAG: u8 = 8 * feature::GEOMETRY as u8 + 2;
 

@@ -12,7 +12,7 @@ ghost use Rattle.mvt_wire.specs.declared.fault.WireFault.{WireFault};
 ghost use Rattle.mvt_wire.specs.declared.field.Field.{Field};
 ghost use Rattle.mvt_wire.specs.Field.{Entry, entry_of};
 ghost use Rattle.mvt_wire.specs.Fields.{GivesEntry};
-ghost use Rattle.mvt_wire.specs.Spelling.{spelled};
+ghost use Rattle.mvt_wire.specs.Spelling.{Plain, spelled};
 ghost use Rattle.mvt_wire.specs.Split.{Parts, Whole, split};
 ghost use Rattle.mvt_feature.specs.Causes.{of_wire};
 ghost use Rattle.mvt_feature.specs.Canonical.{value_fields, feature_fields};
@@ -22,7 +22,7 @@ ghost use Rattle.mvt_feature.specs.Ranges.{AreBytes, IsInRange};
 ghost use Rattle.mvt_feature.specs.Valid.{ValidAttribute, ValidValue, ValidFeature};
 ghost use Rattle.mvt_feature.specs.Features.{IsFeatureOf, number_in, number_of};
 ghost use Rattle.mvt_feature.specs.FeatureRules.{feature_rules, feature_fault};
-ghost use Rattle.mvt_feature.specs.Selection.{last_only};
+ghost use Rattle.mvt_feature.specs.Selection.{AreAlike, contents_at, last_only};
 ghost use Rattle.mvt_feature.specs.Values.{IsValueOf};
 ghost use Rattle.mvt_feature.specs.ValueIn.{value_in};
 ghost use Rattle.mvt_feature.specs.ValueRules.{value_rules, value_fault};
@@ -175,4 +175,13 @@ pub fn walks()
 pub fn number_more()
     ensures { (k : ℕ) (fields : List Entry) (x : Entry) → number_in (last_only k (fields ++ x ∷ []))
         ≡ (if x.number == k then number_of x.content else number_in (last_only k fields)) }
+{}
+
+/// The contents of fields are those of their parts, and a field may as well stand in front of
+/// others of which none has its number.
+pub fn fields_in_any_order()
+    ensures joined { (k : ℕ) (ps qs : List Plain)
+        → contents_at k (ps ++ qs) ≡ contents_at k ps ++ contents_at k qs }
+    ensures between { (front back : List Plain) (p : Plain) → contents_at p.number back ≡ []
+        → AreAlike ((front ++ back) ++ p ∷ []) (front ++ p ∷ back) }
 {}

@@ -126,7 +126,7 @@ pub(crate) fn append_front(
     put_field(out, feature::TYPE, &Payload::Varint(type_number(kind)))
 }
 
-fn append_id(out: &mut Vec<u8>, id: Option<u64>) -> Result<(), AllocError>
+pub(crate) fn append_id(out: &mut Vec<u8>, id: Option<u64>) -> Result<(), AllocError>
     ensures ok { OnOk result (out.new.items ≡ out.old.items ++ spelled (id_fields id)) }
     ensures err { OnErr result (out.new.items ≡ out.old.items) }
 {
@@ -146,7 +146,7 @@ fn append_tags_field(out: &mut Vec<u8>, tags: &[u32]) -> Result<(), AllocError>
     put_packed(out, feature::TAGS, tags)
 }
 
-fn type_number(kind: Kind) -> u64
+pub(crate) fn type_number(kind: Kind) -> u64
     ensures { result ≡ the_type_number kind }
 {
     match kind {

@@ -1,48 +1,24 @@
 -- The version, the name and the extent of a layer, field by field, in any order.
-use Rattle.std.proofs.Common.{◌≡◌, ℕ, ◌==◌, ◌^◌, ◌<◌, Bool, true, false, List, [], ◌∷◌, ◌++◌, length, drop, Bor, Option, Some, None, refl, sym, ap, subst, ◌∙◌, arith, append_assoc, append-nil, lit<, lit≤, if◌then◌else◌}
+use Rattle.std.proofs.Common.{◌≡◌, ℕ, ◌^◌, ◌<◌, Bool, true, false, List, [], ◌∷◌, ◌++◌, length, drop, Bor, Option, Some, None, refl, sym, ap, ◌∙◌, arith, append_assoc, append-nil, lit<, lit≤}
 use Rattle.std.specs.Prelude.{IsUtf8}
-use Rattle.std.proofs.lemmas.Bool.{eqb-true}
 use Rattle.mvt_base.proofs.ListLemmas.{all_joined}
-use Rattle.mvt_wire.specs.Field.{Content, varint, bytes}
-use Rattle.mvt_wire.specs.Spelling.{Plain, IsFit, short_field, spelled}
+use Rattle.mvt_wire.specs.Field.{varint, bytes}
+use Rattle.mvt_wire.specs.Spelling.{IsFit, short_field, spelled}
 use Rattle.mvt_feature.specs.Canonical.{plain}
+use Rattle.mvt_feature.specs.Selection.{AreAlike, contents_at}
+use Rattle.mvt_feature.proofs.FeatureLaws.{fields_in_any_order_between, fields_in_any_order_joined}
 use Rattle.mvt_message.specs.declared.around.Around.{Around}
 use Rattle.mvt_message.specs.declared.numbers.layer.TheConstants.{NAME, EXTENT, VERSION}
-use Rattle.mvt_message.specs.Around.{contents_at, AreAlike, AreAroundFrom, IsAround, IsOneMore, IsValidAround, around_fields, extent_option_fields, name_fields, version_fields}
+use Rattle.mvt_message.specs.Around.{AreAroundFrom, IsAround, IsOneMore, IsValidAround, around_fields, extent_option_fields, name_fields, version_fields}
 use Rattle.mvt_message.specs.CanonicalItems.{extent_fields, head_fields}
-use Rattle.mvt_message.proofs.CanonicalLemmas.{contents-append}
 use Rattle.mvt_message.proofs.CopyingLemmas.{fields_more}
-
--- a field behind others of which none has its number
-field_behind : (k : ℕ) (p : Plain) (qs : List Plain) → contents_at p.number qs ≡ []
-    → contents_at k qs ++ contents_at k (p ∷ []) ≡ contents_at k (p ∷ []) ++ contents_at k qs
-field_behind k p qs none = by_test (p.number == k) refl
-  where
-    one : (b : Bool) → List Content
-    one b = if b then p.content ∷ [] else []
-
-    by_test : (b : Bool) → (p.number == k) ≡ b
-        → contents_at k qs ++ contents_at k (p ∷ []) ≡ contents_at k (p ∷ []) ++ contents_at k qs
-    by_test true e =
-        let nothing : contents_at k qs ≡ [] = subst (λ j. contents_at j qs ≡ []) (eqb-true p.number k e) none in
-        ap (λ c. c ++ contents_at k (p ∷ [])) nothing ∙ sym (append-nil (contents_at k (p ∷ [])))
-        ∙ ap (λ c. contents_at k (p ∷ []) ++ c) (sym nothing)
-    by_test false e =
-        let nothing : contents_at k (p ∷ []) ≡ [] = ap one e in
-        ap (λ c. contents_at k qs ++ c) nothing ∙ append-nil (contents_at k qs) ∙ ap (λ c. c ++ contents_at k qs) (sym nothing)
 
 -- the first name, extent and version
 more_name : (v : Bool) (e : Option ℕ) (name : Bor (List ℕ))
     → AreAlike ((version_fields v ++ (name_fields None ++ extent_option_fields e)) ++ plain NAME (bytes name.now) ∷ [])
     (version_fields v ++ (name_fields (Some name) ++ extent_option_fields e))
-more_name v e name k =
-    let p = plain NAME (bytes name.now) in
-    let es = extent_option_fields e in
-    ap (contents_at k) (append_assoc (version_fields v) es (p ∷ []))
-    ∙ contents-append k (version_fields v) (es ++ p ∷ [])
-    ∙ ap (λ c. contents_at k (version_fields v) ++ c)
-    (contents-append k es (p ∷ []) ∙ field_behind k p es (no_name e) ∙ sym (contents-append k (p ∷ []) es))
-    ∙ sym (contents-append k (version_fields v) (p ∷ es))
+more_name v e name =
+    fields_in_any_order_between (version_fields v) (extent_option_fields e) (plain NAME (bytes name.now)) (no_name e)
   where
     no_name : (e : Option ℕ) → contents_at NAME (extent_option_fields e) ≡ []
     no_name None = refl
@@ -59,10 +35,8 @@ more_extent v n extent k =
 more_version : (n : Option (Bor (List ℕ))) (e : Option ℕ)
     → AreAlike ((version_fields false ++ (name_fields n ++ extent_option_fields e)) ++ plain VERSION (varint 2) ∷ [])
     (version_fields true ++ (name_fields n ++ extent_option_fields e))
-more_version n e k =
-    let p = plain VERSION (varint 2) in
-    let rest = name_fields n ++ extent_option_fields e in
-    contents-append k rest (p ∷ []) ∙ field_behind k p rest (no_version n e) ∙ sym (contents-append k (p ∷ []) rest)
+more_version n e =
+    fields_in_any_order_between [] (name_fields n ++ extent_option_fields e) (plain VERSION (varint 2)) (no_version n e)
   where
     no_version : (n : Option (Bor (List ℕ))) (e : Option ℕ) → contents_at VERSION (name_fields n ++ extent_option_fields e) ≡ []
     no_version None None = refl
@@ -138,9 +112,9 @@ around_more body start at end before so_far after from one =
       stand = fields_more (drop start body) (drop at body) (drop end body) from.fields one.field from.stand one.stands;
       alike = λ k.
           ap (contents_at k) (sym (append_assoc (around_fields before) from.fields more))
-          ∙ contents-append k (around_fields before ++ from.fields) more
+          ∙ fields_in_any_order_joined k (around_fields before ++ from.fields) more
           ∙ ap (λ c. c ++ contents_at k more) (from.alike k)
-          ∙ sym (contents-append k (around_fields so_far) more) ∙ one.alike k;
+          ∙ sym (fields_in_any_order_joined k (around_fields so_far) more) ∙ one.alike k;
       valid = λ valid. one.valid (from.valid valid);
     }
 
@@ -165,9 +139,9 @@ around_is body name extent start end size nothing head whole none front behind l
       ends = behind.stand ∙ ap (λ r. spelled behind.fields ++ r) (ap (λ n. drop n body) last ∙ drop_all body)
           ∙ append-nil (spelled behind.fields);
       alike = λ k.
-          contents-append k front.fields behind.fields
+          fields_in_any_order_joined k front.fields behind.fields
           ∙ ap (λ c. c ++ contents_at k behind.fields) (in_front k)
-          ∙ sym (contents-append k (around_fields head) behind.fields) ∙ behind.alike k ∙ ap (contents_at k) fields;
+          ∙ sym (fields_in_any_order_joined k (around_fields head) behind.fields) ∙ behind.alike k ∙ ap (contents_at k) fields;
       text = text;
       small = small;
     }

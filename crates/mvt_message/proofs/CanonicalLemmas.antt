@@ -19,12 +19,12 @@ use Rattle.mvt_feature.specs.declared.feature.Feature.{Feature}
 use Rattle.mvt_feature.specs.Canonical.{plain, value_fields, feature_fields}
 use Rattle.mvt_feature.specs.Features.{IsFeatureOf, number_in, number_of}
 use Rattle.mvt_feature.specs.Forms.{uint32, string, message, HasForm}
-use Rattle.mvt_feature.specs.Selection.{only, HaveForm}
+use Rattle.mvt_feature.specs.Selection.{only, AreAlike, contents_at, HaveForm}
 use Rattle.mvt_feature.specs.Valid.{ValidValue, ValidAttribute, ValidFeature}
 use Rattle.mvt_feature.specs.Values.{IsValueOf}
 use Rattle.mvt_attrs.proofs.AttrsLaws.{places_name_names, places_name_small, pool_entries_from_keys, pool_entries_from_values, pools_hold}
 use Rattle.mvt_wire.proofs.WireLaws.{short_lengths_bytes, spelled_parts, spelled_whole_whole}
-use Rattle.mvt_feature.proofs.FeatureLaws.{canonical_reads_feature, canonical_reads_value}
+use Rattle.mvt_feature.proofs.FeatureLaws.{canonical_reads_feature, canonical_reads_value, fields_in_any_order_joined}
 use Rattle.mvt_message.specs.declared.numbers.layer.TheConstants.{NAME, FEATURES, KEYS, VALUES, EXTENT, VERSION}
 use Rattle.mvt_message.specs.declared.item.Item.{Item as AnItem}
 use Rattle.mvt_message.specs.declared.item.Layer.{Layer as ALayer}
@@ -32,7 +32,6 @@ use Rattle.mvt_message.specs.declared.item.Item.TheVariants.{Layer, Foreign}
 use Rattle.mvt_message.specs.LayerFields.{bytes_of, version_in, keys_in}
 use Rattle.mvt_message.specs.Items.{HoldsFeature, IsLayer, IsItem}
 use Rattle.mvt_message.specs.CanonicalItems.{attributes_of, keys_of, values_of, head_fields, feature_field, key_field, value_field, extent_fields, fields_with, layer_fields, canonical_item}
-use Rattle.mvt_message.specs.Around.{contents_at, AreAlike}
 use Rattle.mvt_message.specs.Copying.{core_with}
 use Rattle.mvt_message.specs.ValidItems.{ValidLayer, AreOfVersion, ValidItem}
 
@@ -48,16 +47,6 @@ only_contents k (x ∷ xs) = by_test (x.number == k) (only_contents k xs)
         → map (λ (y : Entry). y.content) (if b then x ∷ only k xs else only k xs)
         ≡ (if b then x.content ∷ contents_at k (map plain_of xs) else contents_at k (map plain_of xs))
     by_test true h = ap (λ l. x.content ∷ l) h
-    by_test false h = h
-
-pub contents-append : (k : ℕ) (ps qs : List Plain) → contents_at k (ps ++ qs) ≡ contents_at k ps ++ contents_at k qs
-contents-append k [] qs = refl
-contents-append k (p ∷ ps) qs = by_test (p.number == k) (contents-append k ps qs)
-  where
-    by_test : (b : Bool) → contents_at k (ps ++ qs) ≡ contents_at k ps ++ contents_at k qs
-        → (if b then p.content ∷ contents_at k (ps ++ qs) else contents_at k (ps ++ qs)) ≡
-        (if b then p.content ∷ contents_at k ps else contents_at k ps) ++ contents_at k qs
-    by_test true h = ap (λ l. p.content ∷ l) h
     by_test false h = h
 
 -- fields of one number
@@ -98,15 +87,19 @@ fields_by g ys keys values name extent = head_fields name ++ tail_by g ys keys v
 abbrev pub core_by : {Y : Type 0} → (Y → List ℕ) → List Y → List (List ℕ) → List Value → List Plain
 core_by g ys keys values = all_of FEATURES g ys ++ (all_of KEYS same_bytes keys ++ all_of VALUES value_bytes values)
 
+-- with the features behind
+abbrev pub turned_by : {Y : Type 0} → (Y → List ℕ) → List Y → List (List ℕ) → List Value → List Plain
+turned_by g ys keys values = all_of KEYS same_bytes keys ++ (all_of VALUES value_bytes values ++ all_of FEATURES g ys)
+
 tail_contents : {Y : Type 0} → (k : ℕ) (g : Y → List ℕ) (ys : List Y) (keys : List (List ℕ)) (values : List Value) (extent : ℕ)
     (a b c : List Content)
     → contents_at k (all_of FEATURES g ys) ≡ a → contents_at k (all_of KEYS same_bytes keys) ≡ b
     → contents_at k (all_of VALUES value_bytes values) ≡ c
     → contents_at k (tail_by g ys keys values extent) ≡ a ++ (b ++ (c ++ contents_at k (extent_fields extent)))
 tail_contents k g ys keys values extent a b c ea eb ec =
-    contents-append k (all_of FEATURES g ys) _
-    ∙ ap₂ (λ x y. x ++ y) ea (contents-append k (all_of KEYS same_bytes keys) _
-    ∙ ap₂ (λ x y. x ++ y) eb (contents-append k (all_of VALUES value_bytes values) (extent_fields extent)
+    fields_in_any_order_joined k (all_of FEATURES g ys) _
+    ∙ ap₂ (λ x y. x ++ y) ea (fields_in_any_order_joined k (all_of KEYS same_bytes keys) _
+    ∙ ap₂ (λ x y. x ++ y) eb (fields_in_any_order_joined k (all_of VALUES value_bytes values) (extent_fields extent)
     ∙ ap (λ x. x ++ contents_at k (extent_fields extent)) ec))
 
 -- no field of another number stands after the name
@@ -168,8 +161,8 @@ HasContents g ys keys values name extent xs = (k : ℕ) → contents_of k xs ≡
 core_none : {Y : Type 0} → (k : ℕ) (g : Y → List ℕ) (ys : List Y) (keys : List (List ℕ)) (values : List Value)
     → (FEATURES == k) ≡ false → (KEYS == k) ≡ false → (VALUES == k) ≡ false → contents_at k (core_by g ys keys values) ≡ []
 core_none k g ys keys values two three four =
-    contents-append k (all_of FEATURES g ys) _
-    ∙ ap₂ (λ x y. x ++ y) (contents_other FEATURES k g ys two) (contents-append k (all_of KEYS same_bytes keys) _
+    fields_in_any_order_joined k (all_of FEATURES g ys) _
+    ∙ ap₂ (λ x y. x ++ y) (contents_other FEATURES k g ys two) (fields_in_any_order_joined k (all_of KEYS same_bytes keys) _
     ∙ ap₂ (λ x y. x ++ y) (contents_other KEYS k same_bytes keys three) (contents_other VALUES k value_bytes values four))
 
 core_or_around : {Y : Type 0} → (k : ℕ) (g : Y → List ℕ) (ys : List Y) (keys : List (List ℕ)) (values : List Value) (name : List ℕ)
@@ -216,13 +209,13 @@ any_order : {Y : Type 0} → (g : Y → List ℕ) (ys : List Y) (keys : List (Li
 any_order g ys keys values name extent head tail alike k =
     let core = core_by g ys keys values in
     let behind = extent_fields extent in
-    let same = sym (contents-append k head tail) ∙ alike k ∙ contents-append k (head_fields name) behind in
+    let same = sym (fields_in_any_order_joined k head tail) ∙ alike k ∙ fields_in_any_order_joined k (head_fields name) behind in
     let split = ap (contents_at k) (sym (in_four (all_of FEATURES g ys) (all_of KEYS same_bytes keys) (all_of VALUES value_bytes values)
-    behind)) ∙ contents-append k core behind in
-    contents-append k head (core ++ tail) ∙ ap (λ r. contents_at k head ++ r) (contents-append k core tail)
+    behind)) ∙ fields_in_any_order_joined k core behind in
+    fields_in_any_order_joined k head (core ++ tail) ∙ ap (λ r. contents_at k head ++ r) (fields_in_any_order_joined k core tail)
     ∙ between (contents_at k head) (contents_at k tail) (contents_at k core) (contents_at k (head_fields name)) (contents_at k behind) same
     (core_or_around k g ys keys values name extent)
-    ∙ sym (contents-append k (head_fields name) (tail_by g ys keys values extent)
+    ∙ sym (fields_in_any_order_joined k (head_fields name) (tail_by g ys keys values extent)
     ∙ ap (λ r. contents_at k (head_fields name) ++ r) split)
 
 are_contents : {Y : Type 0} → (g : Y → List ℕ) (ys : List Y) (keys : List (List ℕ)) (values : List Value) (name : List ℕ) (extent : ℕ)
@@ -480,6 +473,24 @@ core_within head core tail b is =
     let behind = spelled_length core tail in
     omega (arith, ap length is, front, behind)
 
+-- fields of which those of each number are a layer's are this layer
+item_alike : {Y : Type 0} → (g : Y → List ℕ) (ys : List Y) (keys : List (List ℕ)) (values : List Value) (layer : ALayer)
+    (fields : List Plain) (b : List ℕ) → b ≡ spelled fields → length (spelled (core_by g ys keys values)) < 2 ^ 32 → AllByRecursion IsFit fields
+    → AreAlike fields (fields_by g ys keys values layer.name layer.extent)
+    → IsUtf8 layer.name → layer.extent < 2 ^ 32 → AllByRecursion IsUtf8 keys → AllByRecursion ValidValue values
+    → ((zs : List Entry) → map (λ (z : Entry). z.content) zs ≡ map (λ y. bytes (g y)) ys
+    → AreRelated (HoldsFeature keys values) zs layer.features)
+    → IsItem b (Layer layer)
+unfolding IsItem
+item_alike g ys keys values layer fields b is within fit alike name extent texts valid features =
+    let fits = core_fits g ys keys values within in
+    let pool_fits = all_right IsFit (all_of KEYS same_bytes keys) _ (all_right IsFit (all_of FEATURES g ys) _ fits) in
+    let value_sizes = sizes VALUES value_bytes values pool_fits in
+    let whole = spelled_whole_whole fields fit in
+    let at = λ (k : ℕ). only_contents k whole.0 ∙ ap (contents_at k) whole.2 ∙ alike k in
+    let layer_read = layer_is g ys whole.0 keys values layer at name extent texts (values_read values valid value_sizes) features in
+    subst (λ c. IsItem c (Layer layer)) (sym is) (whole.0, whole.1, layer_read.0, (layer_read.1, layer_read.2))
+
 -- features, keys and values between fields that are alike the version, the name and the extent are this layer
 pub item_around : {Y : Type 0} → (g : Y → List ℕ) (ys : List Y) (keys : List (List ℕ)) (values : List Value) (layer : ALayer)
     (head tail : List Plain) (b : List ℕ)
@@ -489,18 +500,80 @@ pub item_around : {Y : Type 0} → (g : Y → List ℕ) (ys : List Y) (keys : Li
     → ((zs : List Entry) → map (λ (z : Entry). z.content) zs ≡ map (λ y. bytes (g y)) ys
     → AreRelated (HoldsFeature keys values) zs layer.features)
     → IsItem b (Layer layer)
-unfolding IsItem
-item_around g ys keys values layer head tail b is within head_fit tail_fit alike name extent texts valid features =
+item_around g ys keys values layer head tail b is within head_fit tail_fit alike name extent =
     let core = core_by g ys keys values in
-    let fits = core_fits g ys keys values (omega (arith, core_within head core tail b is)) in
-    let pool_fits = all_right IsFit (all_of KEYS same_bytes keys) _ (all_right IsFit (all_of FEATURES g ys) _ fits) in
-    let value_sizes = sizes VALUES value_bytes values pool_fits in
-    let whole = spelled_whole_whole (head ++ (core ++ tail))
-    (all_joined IsFit head (core ++ tail) head_fit (all_joined IsFit core tail fits tail_fit)) in
-    let at = λ (k : ℕ). only_contents k whole.0 ∙ ap (contents_at k) whole.2
-    ∙ any_order g ys keys values layer.name layer.extent head tail alike k in
-    let layer_read = layer_is g ys whole.0 keys values layer at name extent texts (values_read values valid value_sizes) features in
-    subst (λ c. IsItem c (Layer layer)) (sym is) (whole.0, whole.1, layer_read.0, (layer_read.1, layer_read.2))
+    let small : length (spelled core) < 2 ^ 32 = omega (arith, core_within head core tail b is) in
+    item_alike g ys keys values layer (head ++ (core ++ tail)) b is small
+    (all_joined IsFit head (core ++ tail) head_fit (all_joined IsFit core tail (core_fits g ys keys values small) tail_fit))
+    (any_order g ys keys values layer.name layer.extent head tail alike) name extent
+
+-- keys and values may as well stand in front of features
+core_turned : {Y : Type 0} → (k : ℕ) (g : Y → List ℕ) (ys : List Y) (keys : List (List ℕ)) (values : List Value)
+    → contents_at k (turned_by g ys keys values) ≡ contents_at k (core_by g ys keys values)
+core_turned k g ys keys values =
+    let fs = all_of FEATURES g ys in
+    let ks = all_of KEYS same_bytes keys in
+    let vs = all_of VALUES value_bytes values in
+    ap (contents_at k) (sym (append_assoc ks vs fs)) ∙ fields_in_any_order_joined k (ks ++ vs) fs ∙ by_test (FEATURES == k) refl
+    ∙ sym (fields_in_any_order_joined k fs (ks ++ vs))
+  where
+    front : List Plain
+    front = all_of KEYS same_bytes keys ++ all_of VALUES value_bytes values
+
+    by_test : (t : Bool) → (FEATURES == k) ≡ t
+        → contents_at k front ++ contents_at k (all_of FEATURES g ys) ≡ contents_at k (all_of FEATURES g ys) ++ contents_at k front
+    by_test true e =
+        let here : contents_at FEATURES front ≡ [] =
+        fields_in_any_order_joined FEATURES (all_of KEYS same_bytes keys) (all_of VALUES value_bytes values)
+        ∙ ap₂ (λ a b. a ++ b) (contents_other KEYS FEATURES same_bytes keys refl) (contents_other VALUES FEATURES value_bytes values refl) in
+        let none : contents_at k front ≡ [] = subst (λ j. contents_at j front ≡ []) (eqb-true FEATURES k e) here in
+        ap (λ c. c ++ contents_at k (all_of FEATURES g ys)) none ∙ sym (append-nil (contents_at k (all_of FEATURES g ys)))
+        ∙ ap (λ c. contents_at k (all_of FEATURES g ys) ++ c) (sym none)
+    by_test false e =
+        let none : contents_at k (all_of FEATURES g ys) ≡ [] = contents_other FEATURES k g ys e in
+        ap (λ c. contents_at k front ++ c) none ∙ append-nil (contents_at k front) ∙ ap (λ c. c ++ contents_at k front) (sym none)
+
+turned_length : {Y : Type 0} → (g : Y → List ℕ) (ys : List Y) (keys : List (List ℕ)) (values : List Value)
+    → length (spelled (core_by g ys keys values)) ≡ length (spelled (turned_by g ys keys values))
+turned_length g ys keys values =
+    let fs = all_of FEATURES g ys in
+    let ks = all_of KEYS same_bytes keys in
+    let vs = all_of VALUES value_bytes values in
+    let a = spelled_length fs (ks ++ vs) in
+    let b = spelled_length ks vs in
+    let c = spelled_length ks (vs ++ fs) in
+    let d = spelled_length vs fs in
+    omega (arith, a, b, c, d)
+
+-- the same of a layer whose keys and values stand in front of its features
+pub item_turned : {Y : Type 0} → (g : Y → List ℕ) (ys : List Y) (keys : List (List ℕ)) (values : List Value) (layer : ALayer)
+    (head tail : List Plain) (b : List ℕ)
+    → b ≡ spelled (head ++ (turned_by g ys keys values ++ tail)) → length b < 2 ^ 32
+    → AllByRecursion IsFit head → AllByRecursion IsFit tail → AreAlike (head ++ tail) (head_fields layer.name ++ extent_fields layer.extent)
+    → IsUtf8 layer.name → layer.extent < 2 ^ 32 → AllByRecursion IsUtf8 keys → AllByRecursion ValidValue values
+    → ((zs : List Entry) → map (λ (z : Entry). z.content) zs ≡ map (λ y. bytes (g y)) ys
+    → AreRelated (HoldsFeature keys values) zs layer.features)
+    → IsItem b (Layer layer)
+item_turned g ys keys values layer head tail b is within head_fit tail_fit alike name extent =
+    let fs = all_of FEATURES g ys in
+    let ks = all_of KEYS same_bytes keys in
+    let vs = all_of VALUES value_bytes values in
+    let turned = turned_by g ys keys values in
+    let small : length (spelled (core_by g ys keys values)) < 2 ^ 32 =
+    omega (arith, core_within head turned tail b is, turned_length g ys keys values) in
+    let fits = core_fits g ys keys values small in
+    let pools = all_right IsFit fs (ks ++ vs) fits in
+    let turned_fit = all_joined IsFit ks (vs ++ fs) (all_left IsFit ks vs pools)
+    (all_joined IsFit vs fs (all_right IsFit ks vs pools) (all_left IsFit fs (ks ++ vs) fits)) in
+    item_alike g ys keys values layer (head ++ (turned ++ tail)) b is small
+    (all_joined IsFit head (turned ++ tail) head_fit (all_joined IsFit turned tail turned_fit tail_fit))
+    (λ k.
+    let core = core_by g ys keys values in
+    fields_in_any_order_joined k head (turned ++ tail)
+    ∙ ap (λ c. contents_at k head ++ c) (fields_in_any_order_joined k turned tail
+    ∙ ap (λ c. c ++ contents_at k tail) (core_turned k g ys keys values) ∙ sym (fields_in_any_order_joined k core tail))
+    ∙ sym (fields_in_any_order_joined k head (core ++ tail)) ∙ any_order g ys keys values layer.name layer.extent head tail alike k)
+    name extent
 
 -- features in their canonical payloads
 pub features_are : (keys : List (List ℕ)) (values : List Value) (features : List Feature) → length keys ≤ 2 ^ 32 → length values ≤ 2 ^ 32

@@ -1,6 +1,6 @@
 -- A layer that is canonical but for where its version stands, and for last keys and values that no feature uses.
 use Rattle.std.proofs.Common.{◌≡◌, ℕ, zero, suc, ◌+◌, ◌-◌, ◌<◌, ◌≤◌, List, [], ◌∷◌, ◌++◌, length, map, take, drop, get_or, Bor, zero-add, refl, sym, ap, ap₂, subst, ◌∙◌, arith, append_assoc, append-nil, length-append, slice_get, Some}
-use Rattle.std.proofs.lemmas.List.{drop-map, length-drop, map-append, take_more, take-append-drop}
+use Rattle.std.proofs.lemmas.List.{drop-map, length-drop, map-append, take-append-drop}
 use Rattle.std.proofs.lemmas.Option.{slice_get-get_or}
 use Rattle.std.proofs.Math.Seq.{take-append_seam, take-length}
 use Rattle.std.specs.Prelude.{IsUtf8}
@@ -154,7 +154,7 @@ get_or-mapped f [] i d = refl
 get_or-mapped f (x ∷ xs) zero d = refl
 get_or-mapped f (x ∷ xs) (suc i) d = get_or-mapped f xs i d
 
-length-mapped : {X Y : Type 0} → (f : X → Y) (xs : List X) → length (map f xs) ≡ length xs
+pub length-mapped : {X Y : Type 0} → (f : X → Y) (xs : List X) → length (map f xs) ≡ length xs
 length-mapped f [] = refl
 length-mapped f (x ∷ xs) = ap suc (length-mapped f xs)
 
@@ -206,7 +206,7 @@ keys_are_from body start at payloads keys (within, is) are texts =
     (within, is ∙ ap (λ fs. spelled fs ++ drop at body) (keys_as_lent payloads keys (sym are)), texts)
 
 -- where fields end
-fields_end : (body fields : List ℕ) (start at : ℕ) → drop start body ≡ fields ++ drop at body → start ≤ length body → at ≤ length body
+pub fields_end : (body fields : List ℕ) (start at : ℕ) → drop start body ≡ fields ++ drop at body → start ≤ length body → at ≤ length body
     → start + length fields ≡ at
 fields_end body fields start at is from within =
     let size = ap length is ∙ length-append fields (drop at body) in

@@ -1,5 +1,5 @@
 -- A layer of which the first features are canonical, and the others are made so one after the other.
-use Rattle.std.proofs.Common.{◌≡◌, ℕ, ◌+◌, ◌-◌, ◌^◌, ◌<◌, ◌≤◌, List, [], ◌∷◌, ◌++◌, length, map, take, drop, get_or, Bor, refl, sym, ap, ap₂, subst, ◌∙◌, arith, append_assoc, length-append, IsTrue, false}
+use Rattle.std.proofs.Common.{◌≡◌, ℕ, ◌+◌, ◌-◌, ◌^◌, ◌<◌, ◌≤◌, List, [], ◌∷◌, ◌++◌, length, map, take, drop, get_or, Bor, inl, inr, refl, sym, ap, ap₂, subst, ◌∙◌, arith, append_assoc, append-nil, length-append, IsTrue, false}
 use Rattle.std.proofs.lemmas.List.{length-drop, map-append, take_more, take-append-drop}
 use Rattle.std.proofs.Math.Seq.{take-append_seam}
 use Rattle.std.specs.Prelude.{IsUtf8}
@@ -10,14 +10,16 @@ use Rattle.mvt_base.proofs.ListLemmas.{related-append}
 use Rattle.mvt_attrs.specs.declared.value.Value.{Value}
 use Rattle.mvt_attrs.specs.FirstUse.{AreDistinct}
 use Rattle.mvt_attrs.specs.FirstUses.{lent}
+use Rattle.mvt_attrs.specs.Pools.{key_pool, value_pool}
 use Rattle.mvt_attrs.specs.TagPlaces.{IsIn}
 use Rattle.mvt_attrs.specs.Using.{HasUses, used_of}
 use Rattle.mvt_wire.specs.Field.{bytes, Entry}
-use Rattle.mvt_wire.specs.Spelling.{short_field, spelled}
+use Rattle.mvt_wire.specs.Spelling.{Plain, short_field, spelled}
 use Rattle.mvt_feature.specs.declared.feature.Feature.{Feature}
 use Rattle.mvt_feature.specs.Canonical.{plain, value_fields}
 use Rattle.mvt_feature.specs.Copying.{AreReady}
 use Rattle.mvt_feature.specs.Features.{IsFeatureOf}
+use Rattle.mvt_feature.specs.Ordering.{IsOrdered}
 use Rattle.mvt_feature.specs.Ranges.{AreBytes}
 use Rattle.mvt_feature.specs.Valid.{ValidFeature, ValidValue}
 use Rattle.mvt_feature.specs.Values.{IsValueOf}
@@ -34,12 +36,12 @@ use Rattle.mvt_message.specs.Around.{IsAround}
 use Rattle.mvt_message.specs.Copying.{AreFeaturesFrom, IsFrontOf}
 use Rattle.mvt_message.specs.Items.{IsItem}
 use Rattle.mvt_message.specs.LayerFields.{bytes_of}
-use Rattle.mvt_message.specs.Resuming.{payload_field, AreFeaturesRead, AreHeld, IsPartOf, IsWrittenUpTo}
+use Rattle.mvt_message.specs.Resuming.{payload_field, AreFeaturesRead, AreHeld, AreOrderedFrom, IsOrderedUpTo, IsPartOf, IsPlaced, IsWrittenUpTo}
 use Rattle.mvt_message.specs.Rewriting.{AreWritten, HasWritten, tail_of}
 use Rattle.mvt_message.specs.ValidItems.{ValidItem}
-use Rattle.mvt_message.proofs.CanonicalLemmas.{feature_bytes, count_bytes, features_read, more_enough, core_by, item_around}
-use Rattle.mvt_message.proofs.CopyingLemmas.{all_dropped, features_stay, keys_are_from, mapped_more, parts_spelled, ready_values, told_weaker, values_apart}
-use Rattle.mvt_message.proofs.PoolLemmas.{keys_front, values_front}
+use Rattle.mvt_message.proofs.CanonicalLemmas.{feature_bytes, count_bytes, features_read, more_enough, item_around, item_turned}
+use Rattle.mvt_message.proofs.CopyingLemmas.{all_dropped, features_stay, fields_end, keys_are_from, length-mapped, mapped_more, parts_spelled, ready_values, told_weaker, values_apart}
+use Rattle.mvt_message.proofs.PoolLemmas.{keys_front, keys_more, values_front, values_more}
 use Rattle.mvt_message.proofs.RewriteLemmas.{layer_rewritten}
 use Rattle.mvt_message.proofs.ValidLemmas.{item_valid}
 
@@ -152,14 +154,19 @@ module _ (keys : List (List ℕ)) (values : List Value) (features : List Feature
       (more_enough features (drop used.0 keys) (drop used.1 values) valid (all_dropped IsUtf8 used.0 keys texts)
       (all_dropped ValidValue used.1 values valid_values)).held)
 
--- the canonical features are written as they stand
-pub written_start : (body : List ℕ) (part : Part) (w : LayerWriter) → length body ≤ LIMIT → (is : IsPartOf body part)
-    → IsTrue part.front.is_apart
-    → HasUses w.uses part.keys.items is.held → used_of w.uses.keys ≡ take part.reached.used.0 part.keys.items
-    → used_of w.uses.values ≡ take part.reached.used.1 is.held
-    → w.features.items ≡ take (part.reached.at - part.features_at) (drop part.features_at body)
-    → IsWrittenUpTo body part part.reached.at w
-written_start body part w small is apart uses used_keys used_values copied =
+-- the canonical features end behind their start
+pub reached_behind : (body : List ℕ) (part : Part) → IsPartOf body part → IsTrue part.front.is_apart → part.features_at ≤ part.reached.at
+reached_behind body part is apart =
+    let from = is.from apart in
+    let end = fields_end body (spelled (map (feature_field part.keys.items is.held) from.features)) part.features_at part.reached.at
+    from.fields is.start_within is.at_within in
+    omega (arith, end)
+
+-- the canonical features are copied as they stand
+pub ordered_start : (body : List ℕ) (part : Part) (out : List ℕ) → length body ≤ LIMIT → (is : IsPartOf body part)
+    → IsTrue part.front.is_apart → out ≡ take (part.reached.at - part.features_at) (drop part.features_at body)
+    → IsOrderedUpTo body part part.reached.at part.reached.used out
+ordered_start body part out small is apart copied =
     let keys = part.keys.items in
     let held = is.held in
     let from = is.from apart in
@@ -170,7 +177,7 @@ written_start body part w small is apart uses used_keys used_values copied =
     let size = ap length from.fields ∙ length-append own (drop at body) in
     let long : at - start ≡ length own =
     omega (arith, size, length-drop start body, length-drop at body, is.start_within, is.at_within) in
-    let whole : w.features.items ≡ own =
+    let whole : out ≡ own =
     copied ∙ ap₂ (λ n b. take n b) long from.fields ∙ take-append_seam own (drop at body) in
     let within = part_within body own (drop at body) start from.fields in
     let keys_few = few_keys body part.front keys small is.is_front is.keys_are is.texts in
@@ -178,7 +185,7 @@ written_start body part w small is apart uses used_keys used_values copied =
     record {
       held = held;
       held_are = is.held_are;
-      read = record {
+      ordered = record {
         payloads = map (feature_bytes keys held) features;
         features = features;
         fields = from.fields ∙ ap (λ fs. spelled fs ++ drop at body) (sym (fields_mapped keys held features));
@@ -186,12 +193,73 @@ written_start body part w small is apart uses used_keys used_values copied =
             (features_read keys held features (omega (arith, keys_few)) (omega (arith, values_few)) from.valid
             (stay_in keys held features part.reached.used from.keys_are from.values_are from.valid is.texts is.held_are.valid)
             (small_by FEATURES (feature_bytes keys held) features (omega (arith, within, small))));
+        written = whole;
+        keys_are = from.keys_are;
+        values_are = from.values_are;
+        ready = from.ready;
+      };
+    }
+
+-- one feature more is put in order
+pub ordered_more : (keys : List (List ℕ)) (held : List Value) (body : List ℕ) (start at after : ℕ) (used more : ℕ × ℕ)
+    (old new payload before canonical : List ℕ) → (from : AreOrderedFrom keys held body start at used old)
+    → drop at body ≡ short_field FEATURES (bytes payload) ++ drop after body → before ≡ []
+    → IsOrdered payload keys held used more before canonical → new ≡ old ++ short_field FEATURES (bytes canonical)
+    → AreOrderedFrom keys held body start after more new
+ordered_more keys held body start at after used more old new payload before canonical from front none one grown =
+    let f = one.feature in
+    let uses = one.uses in
+    let own = feature_field keys held in
+    let field = short_field FEATURES (bytes canonical) in
+    let is : canonical ≡ feature_bytes keys held f = one.written ∙ ap (λ b. b ++ feature_bytes keys held f) none in
+    record {
+      payloads = from.payloads ++ payload ∷ [];
+      features = from.features ++ f ∷ [];
+      fields = mapped_more payload_field (drop start body) (drop at body) (drop after body) from.payloads payload from.fields front;
+      are = related-append (λ p f. IsFeatureOf p keys held f) from.payloads from.features (payload ∷ []) (f ∷ []) from.are (one.is, tt);
+      written = mapped_more own new field [] from.features f (grown ∙ ap (λ o. o ++ field) from.written)
+          (ap (λ d. short_field FEATURES (bytes d)) is ∙ sym (append-nil (short_field FEATURES (bytes (feature_bytes keys held f)))))
+          ∙ append-nil (spelled (map own (from.features ++ f ∷ [])));
+      keys_are = sym (keys_more from.features f) ∙ ap (λ ks. key_pool ks f.attributes) from.keys_are ∙ uses.keys_are;
+      values_are = sym (values_more from.features f) ∙ ap (λ vs. value_pool vs f.attributes) from.values_are ∙ uses.values_are;
+      ready = record {
+        keys_apart = from.ready.keys_apart;
+        values_apart = from.ready.values_apart;
+        texts = from.ready.texts;
+        valid = from.ready.valid;
+        keys_within = uses.keys_within;
+        values_within = uses.values_within;
+      };
+    }
+
+-- as many values are held as stand in the front
+pub held_count : (body : List ℕ) (front : Front) (held : List Value) → AreHeld body front held
+    → length held ≡ length front.values.items
+held_count body front held are =
+    sym (length-mapped value_bytes held) ∙ ap length (sym are.are)
+    ∙ length-mapped (λ (b : Bor (List ℕ)). b.now) front.values.items
+
+-- features that were put in order are written, whatever features follow
+pub ordered_written : (body : List ℕ) (part : Part) (at : ℕ) (used : ℕ × ℕ) (out : List ℕ) (w : LayerWriter)
+    → (is : IsOrderedUpTo body part at used out) → HasUses w.uses part.keys.items is.held
+    → used_of w.uses.keys ≡ take used.0 part.keys.items → used_of w.uses.values ≡ take used.1 is.held → w.features.items ≡ out
+    → IsWrittenUpTo body part at w
+ordered_written body part at used out w is uses used_keys used_values same =
+    let o = is.ordered in
+    record {
+      held = is.held;
+      held_are = is.held_are;
+      read = record {
+        payloads = o.payloads;
+        features = o.features;
+        fields = o.fields;
+        are = o.are;
         written = record {
           uses = uses;
-          keys_are = used_keys ∙ sym from.keys_are;
-          values_are = used_values ∙ sym from.values_are;
-          written = subst (AreWritten features) (sym whole)
-              (stay_written keys held features part.reached.used from.keys_are from.values_are);
+          keys_are = used_keys ∙ sym o.keys_are;
+          values_are = used_values ∙ sym o.values_are;
+          written = subst (AreWritten o.features) (sym (same ∙ o.written))
+              (stay_written part.keys.items is.held o.features used o.keys_are o.values_are);
         };
       };
     }
@@ -224,30 +292,27 @@ read_more keys held body start at after old new payload read front f is written 
   written = written;
 }
 
+-- fields that stand behind one another
+in_a_row : (body : List ℕ) (head a b c tail : List Plain) (start second third end : ℕ) → body ≡ spelled head ++ drop start body
+    → drop start body ≡ spelled a ++ drop second body → drop second body ≡ spelled b ++ drop third body
+    → drop third body ≡ spelled c ++ drop end body → drop end body ≡ spelled tail
+    → body ≡ spelled (head ++ ((a ++ (b ++ c)) ++ tail))
+in_a_row body head a b c tail start second third end begins first then last ends =
+    begins
+    ∙ ap (λ r. spelled head ++ r)
+    (first ∙ ap (λ r. spelled a ++ r) (then ∙ ap (λ r. spelled b ++ r) (last ∙ ap (λ r. spelled c ++ r) ends))
+    ∙ regroup (spelled a) (spelled b) (spelled c) (spelled tail) ∙ ap (λ l. l ++ spelled tail) (sym (parts_spelled a b c))
+    ∙ sym (spelled_parts (a ++ (b ++ c)) tail))
+    ∙ sym (spelled_parts head ((a ++ (b ++ c)) ++ tail))
+  where
+    regroup : (f k v d : List ℕ) → f ++ (k ++ (v ++ d)) ≡ (f ++ (k ++ v)) ++ d
+    regroup f k v d = simp append_assoc
+
 -- the layer whose features were all written
 module _ (body : List ℕ) (part : Part) (w : LayerWriter) (few : length body ≤ LIMIT) (is : IsPartOf body part)
-    (written : IsWrittenUpTo body part part.front.keys_at w) where
+    (written : IsWrittenUpTo body part part.features_end w) where
   abbrev made : ALayer
   made = record { name = part.name.now; extent = part.extent; features = written.read.features }
-
-  whole : body ≡ spelled (is.around.head ++ (core_by (λ p. p) written.read.payloads part.keys.items written.held ++ is.around.tail))
-  whole =
-      let front = part.front in
-      let keys = part.keys.items in
-      let own = map payload_field written.read.payloads in
-      let key_part = map key_field keys in
-      let value_part = map value_field written.held in
-      let key_fields = keys_are_from body front.keys_at front.values_at front.keys.items keys is.is_front.keys is.keys_are is.texts in
-      let stand : drop part.features_at body ≡ spelled (own ++ (key_part ++ value_part)) ++ drop front.end_at body =
-      written.read.fields ∙ ap (λ r. spelled own ++ r) (key_fields.1 ∙ ap (λ r. spelled key_part ++ r) written.held_are.fields)
-      ∙ regroup (spelled own) (spelled key_part) (spelled value_part) (drop front.end_at body)
-      ∙ ap (λ l. l ++ drop front.end_at body) (sym (parts_spelled own key_part value_part)) in
-      let core = own ++ (key_part ++ value_part) in
-      is.around.begins ∙ ap (λ r. spelled is.around.head ++ r) (stand ∙ ap (λ r. spelled core ++ r) is.around.ends
-      ∙ sym (spelled_parts core is.around.tail)) ∙ sym (spelled_parts is.around.head (core ++ is.around.tail))
-    where
-      regroup : (f k v d : List ℕ) → f ++ (k ++ (v ++ d)) ≡ (f ++ (k ++ v)) ++ d
-      regroup f k v d = simp append_assoc
 
   features_held : (zs : List Entry) → map (λ (z : Entry). z.content) zs ≡ map (λ p. bytes p) written.read.payloads
       → AreRelated (λ (z : Entry) f. IsFeatureOf (bytes_of z.content) part.keys.items written.held f) zs written.read.features
@@ -256,10 +321,39 @@ module _ (body : List ℕ) (part : Part) (w : LayerWriter) (few : length body �
       written.read.are
 
   item : IsItem body (Layer made)
-  item =
-      item_around (λ p. p) written.read.payloads part.keys.items written.held made is.around.head is.around.tail body whole
-      (omega (arith, few)) is.around.head_fit is.around.tail_fit is.around.alike is.around.text is.around.small is.texts
-      written.held_are.valid features_held
+  item = by_place is.placed
+    where
+      own : List Plain
+      own = map payload_field written.read.payloads
+
+      key_part : List Plain
+      key_part = map key_field part.keys.items
+
+      value_part : List Plain
+      value_part = map value_field written.held
+
+      keys_stand : drop part.front.keys_at body ≡ spelled key_part ++ drop part.front.values_at body
+      keys_stand =
+          (keys_are_from body part.front.keys_at part.front.values_at part.front.keys.items part.keys.items is.is_front.keys is.keys_are
+          is.texts).1
+
+      by_place : IsPlaced part is.start is.end → IsItem body (Layer made)
+      by_place (inl (start, behind, end)) =
+          item_around (λ p. p) written.read.payloads part.keys.items written.held made is.around.head is.around.tail body
+          (in_a_row body is.around.head own key_part value_part is.around.tail part.features_at part.front.keys_at part.front.values_at
+          part.front.end_at (is.around.begins ∙ ap (λ n. spelled is.around.head ++ drop n body) start)
+          (written.read.fields ∙ ap (λ n. spelled own ++ drop n body) behind) keys_stand written.held_are.fields
+          (ap (λ n. drop n body) (sym end) ∙ is.around.ends))
+          (omega (arith, few)) is.around.head_fit is.around.tail_fit is.around.alike is.around.text is.around.small is.texts
+          written.held_are.valid features_held
+      by_place (inr (start, behind, end)) =
+          item_turned (λ p. p) written.read.payloads part.keys.items written.held made is.around.head is.around.tail body
+          (in_a_row body is.around.head key_part value_part own is.around.tail part.front.keys_at part.front.values_at part.front.end_at
+          part.features_end (is.around.begins ∙ ap (λ n. spelled is.around.head ++ drop n body) start) keys_stand
+          written.held_are.fields (ap (λ n. drop n body) (sym behind) ∙ written.read.fields)
+          (ap (λ n. drop n body) (sym end) ∙ is.around.ends))
+          (omega (arith, few)) is.around.head_fit is.around.tail_fit is.around.alike is.around.text is.around.small is.texts
+          written.held_are.valid features_held
 
   pub layer_written : AreBytes body
       → (layer : ALayer) × IsItem body (Layer layer) × ValidItem (Layer layer) × (part.name.now ≡ layer.name) × Unit {0}
@@ -275,21 +369,24 @@ module _ (body : List ℕ) (part : Part) (w : LayerWriter) (few : length body �
   )
 
 -- a layer of which features were reached
-pub part_is : (WereTold : List Feature → Type 0) (body : List ℕ) (part : Part)
-    → IsAround body part.name.now part.extent part.features_at part.front.end_at → IsFrontOf body part.front
+pub part_is : (WereTold : List Feature → Type 0) (body : List ℕ) (part : Part) (start end : ℕ)
+    → IsAround body part.name.now part.extent start end → IsPlaced part start end → IsFrontOf body part.front
     → part.features_at ≤ length body → part.reached.at ≤ length body
     → part.keys.items ≡ lent part.front.keys.items → AllByRecursion IsUtf8 part.keys.items
     → ((held : List Value) → length held ≡ length part.front.values.items → AreReady part.keys.items held (0, 0)
     → AreFeaturesFrom WereTold body part.features_at part.keys.items held part.reached.at part.reached.used)
     → (part.front.is_apart ≡ false → part.reached.at ≡ part.features_at)
     → IsPartOf body part
-part_is WereTold body part around is_front start_within at_within keys_are texts from none =
+part_is WereTold body part start end around placed is_front start_within at_within keys_are texts from none =
     let (within, (held, fields, valid, are)) = is_front.values in
     let ready = λ (apart : IsTrue part.front.is_apart).
     ready_values part.keys.items part.front.values.items held are (subst AreDistinct (sym keys_are) (is_front.keys_apart apart))
     (is_front.values_apart apart) texts valid in
     record {
+      start = start;
+      end = end;
       around = around;
+      placed = placed;
       is_front = is_front;
       start_within = start_within;
       at_within = at_within;

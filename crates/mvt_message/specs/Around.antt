@@ -1,22 +1,14 @@
 -- The version, the name and the extent of a layer, which stand around its features, keys and values in any order.
-use Rattle.std.specs.Prelude.{◌≡◌, ℕ, ◌==◌, ◌^◌, ◌<◌, List, [], ◌∷◌, ◌++◌, drop, if◌then◌else◌, Bool, true, false, Option, Some, None, IfSome, IsUtf8}
+use Rattle.std.specs.Prelude.{◌≡◌, ℕ, ◌^◌, ◌<◌, List, [], ◌∷◌, ◌++◌, drop, Bool, true, false, Option, Some, None, IfSome, IsUtf8}
 use Rattle.std.specs.List.{AllByRecursion}
 use Rattle.std.specs.Borrow.{Bor}
-use Rattle.mvt_wire.specs.Field.{Content, bytes, varint}
+use Rattle.mvt_wire.specs.Field.{bytes, varint}
 use Rattle.mvt_wire.specs.Spelling.{Plain, IsFit, short_field, spelled}
 use Rattle.mvt_feature.specs.Canonical.{plain}
+use Rattle.mvt_feature.specs.Selection.{AreAlike}
 use Rattle.mvt_message.specs.declared.around.Around.{Around}
 use Rattle.mvt_message.specs.declared.numbers.layer.TheConstants.{NAME, VERSION}
 use Rattle.mvt_message.specs.CanonicalItems.{head_fields, extent_fields}
-
--- the contents of the fields of a number
-abbrev pub contents_at : ℕ → List Plain → List Content
-contents_at k [] = []
-contents_at k (p ∷ ps) = if p.number == k then p.content ∷ contents_at k ps else contents_at k ps
-
--- fields of which those of each number are the same, in their order
-abbrev pub AreAlike : List Plain → List Plain → Type 0
-AreAlike ps qs = (k : ℕ) → contents_at k ps ≡ contents_at k qs
 
 -- a version of 2
 abbrev pub version_fields : Bool → List Plain
@@ -54,6 +46,10 @@ pub record AreAroundFrom (body : List ℕ) (start : ℕ) (before : Around) (afte
   pub stand : drop start body ≡ spelled fields ++ drop at body
   pub alike : AreAlike (around_fields before ++ fields) (around_fields after)
   pub valid : IsValidAround before → IsValidAround after
+
+-- what stands up to a place in front of the other fields
+abbrev pub IsHead : List ℕ → Around → ℕ → Type 0
+IsHead body head at = AreAroundFrom body 0 (record { has_version = false; name = None; extent = None }) head at
 
 -- the name and the extent of a layer of version 2, whose other fields stand from one place to another
 pub record IsAround (body name : List ℕ) (extent start end : ℕ) : Type 0 where

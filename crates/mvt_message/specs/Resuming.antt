@@ -1,5 +1,5 @@
 -- A layer of which the first features are canonical, while the others are made so.
-use Rattle.std.specs.Prelude.{◌≡◌, ℕ, ◌+◌, ◌≤◌, List, ◌++◌, length, map, drop, IsTrue, IsUtf8, false}
+use Rattle.std.specs.Prelude.{◌≡◌, ℕ, ◌+◌, ◌≤◌, ◌⊎◌, List, ◌++◌, length, map, take, drop, IsTrue, IsUtf8, false}
 use Rattle.std.specs.List.{AllByRecursion}
 use Rattle.mvt_base.specs.Related.{AreRelated}
 use Rattle.mvt_attrs.specs.declared.value.Value.{Value}
@@ -9,6 +9,7 @@ use Rattle.mvt_wire.specs.Spelling.{Plain, spelled}
 use Rattle.mvt_feature.specs.declared.feature.Feature.{Feature}
 use Rattle.mvt_feature.specs.Canonical.{plain, value_fields}
 use Rattle.mvt_feature.specs.Features.{IsFeatureOf}
+use Rattle.mvt_feature.specs.Copying.{AreReady}
 use Rattle.mvt_feature.specs.Valid.{ValidValue}
 use Rattle.mvt_message.specs.declared.layer_copying.Frame.{Frame}
 use Rattle.mvt_message.specs.declared.layer_copying.Front.{Front}
@@ -20,7 +21,7 @@ use Rattle.mvt_message.specs.declared.layer_copying.Known.TheVariants.{Copied, W
 use Rattle.mvt_message.specs.declared.layer_rewriting.Rewritten.TheVariants.{Layer}
 use Rattle.mvt_message.specs.declared.layer_writer.LayerWriter.{LayerWriter}
 use Rattle.mvt_message.specs.declared.numbers.layer.TheConstants.{FEATURES}
-use Rattle.mvt_message.specs.CanonicalItems.{value_field}
+use Rattle.mvt_message.specs.CanonicalItems.{feature_field, keys_of, value_field, values_of}
 use Rattle.mvt_message.specs.Around.{IsAround}
 use Rattle.mvt_message.specs.Copying.{AreFeaturesFrom, IsCopied, IsCoreOf, IsFrontOf, copied_core, copied_payload}
 use Rattle.mvt_message.specs.Rewriting.{HasWritten, IsRewrittenAs}
@@ -43,9 +44,18 @@ pub record AreHeld (body : List ℕ) (front : Front) (held : List Value) : Type 
   pub valid : AllByRecursion ValidValue held
   pub are : lent front.values.items ≡ map (λ (v : Value). spelled (value_fields v)) held
 
+-- the features stand in front of the keys and the values, or behind them
+abbrev pub IsPlaced : Part → ℕ → ℕ → Type 0
+IsPlaced part start end =
+    ((start ≡ part.features_at) × (part.features_end ≡ part.front.keys_at) × (end ≡ part.front.end_at))
+    ⊎ ((start ≡ part.front.keys_at) × (part.features_at ≡ part.front.end_at) × (end ≡ part.features_end))
+
 -- a layer whose first features are canonical; none is taken where a key or a value may stand twice
 pub record IsPartOf (body : List ℕ) (part : Part) : Type 0 where
-  pub around : IsAround body part.name.now part.extent part.features_at part.front.end_at
+  pub start : ℕ
+  pub end : ℕ
+  pub around : IsAround body part.name.now part.extent start end
+  pub placed : IsPlaced part start end
   pub is_front : IsFrontOf body part.front
   pub start_within : part.features_at ≤ length body
   pub at_within : part.reached.at ≤ length body
@@ -56,6 +66,24 @@ pub record IsPartOf (body : List ℕ) (part : Part) : Type 0 where
   pub from : IsTrue part.front.is_apart
       → AreFeaturesFrom (λ _. Unit {0}) body part.features_at part.keys.items held part.reached.at part.reached.used
   pub none : part.front.is_apart ≡ false → part.reached.at ≡ part.features_at
+
+-- features that were put in order: they use the first of the keys and of the values, in their order
+pub record AreOrderedFrom (keys : List (List ℕ)) (values : List Value) (body : List ℕ) (start at : ℕ) (used : ℕ × ℕ) (out : List ℕ) : Type 0
+  where
+    pub payloads : List (List ℕ)
+    pub features : List Feature
+    pub fields : drop start body ≡ spelled (map payload_field payloads) ++ drop at body
+    pub are : AreRelated (λ p f. IsFeatureOf p keys values f) payloads features
+    pub written : out ≡ spelled (map (feature_field keys values) features)
+    pub keys_are : keys_of features ≡ take used.0 keys
+    pub values_are : values_of features ≡ take used.1 values
+    pub ready : AreReady keys values used
+
+-- the features of a layer up to a place were put in order
+pub record IsOrderedUpTo (body : List ℕ) (part : Part) (at : ℕ) (used : ℕ × ℕ) (out : List ℕ) : Type 0 where
+  pub held : List Value
+  pub held_are : AreHeld body part.front held
+  pub ordered : AreOrderedFrom part.keys.items held body part.features_at at used out
 
 -- its features up to a place were written
 pub record IsWrittenUpTo (body : List ℕ) (part : Part) (at : ℕ) (w : LayerWriter) : Type 0 where

@@ -10,6 +10,7 @@ ghost use Rattle.mvt_message.specs.Copying.{IsCanonicalLayer, IsFrameOf, IsInPla
 
 use crate::around::{may_end_with_extent, name_at};
 use crate::layer_copying::{Frame, Seen, bounds_of, end_of, front_of, seen_of};
+use crate::looking::may_begin_in_order;
 use crate::numbers::layer;
 use mvt_base::LIMIT;
 use mvt_feature::{FeatureFields, NotCanonical};
@@ -82,7 +83,7 @@ fn frame_in_place(alloc: Global, payload: &[u8]) -> Result<Frame<'_>, NotCanonic
     let Some((name, features_at)) = head_in_place(payload) else {
         return Err(NotCanonical::Other);
     };
-    if !may_end_with_extent(payload) {
+    if !may_end_with_extent(payload) || !may_begin_in_order(payload, features_at) {
         return Err(NotCanonical::Other);
     }
     let front = front_of(alloc, payload, features_at)?;

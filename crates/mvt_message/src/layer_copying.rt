@@ -11,12 +11,14 @@ ghost use Rattle.mvt_feature.specs.Copying.{AreReady, IsCanonicalValue};
 ghost use Rattle.mvt_message.specs.declared.item.Item.{Item};
 ghost use Rattle.mvt_message.specs.declared.numbers.layer.TheConstants.{KEYS, VALUES};
 ghost use Rattle.mvt_message.specs.Copying.{AreFeaturesFrom, ArePayloadsFrom, AreValuesFrom, IsFrameOf, IsFrontOf, lent_field};
-ghost use Rattle.mvt_message.specs.Resuming.{IsKnown, IsSeen, IsSeenWithin};
+ghost use Rattle.mvt_message.specs.Around.{IsHead};
+ghost use Rattle.mvt_message.specs.Resuming.{IsKnown, IsPartOf, IsSeen, IsSeenWithin};
 
 use crate::around::{Around, around_from, may_be_whole, whole_of};
 use crate::canonical_layer::CanonicalVisitor;
 use crate::layer_rewriting::RewrittenLayer;
-use crate::looking::{counts_from, may_be_texts, may_begin_in_order};
+use crate::keys_first::{begins_with_key, keys_first};
+use crate::looking::{Counts, counts_from, may_be_put_in_order, may_be_texts};
 use crate::numbers::layer;
 use crate::resuming::write_behind;
 use mvt_attrs::{LayerKeys, are_distinct};
@@ -61,20 +63,36 @@ pub(crate) fn known_layer(alloc: Global, payload: &[u8]) -> Result<Known<'_>, No
     requires { length payload.now ≤ LIMIT }
     ensures { IfOk result (IsKnown payload.now) }
 {
-    let frame = frame_of(alloc, payload)?;
+    let (head, start) = head_of(payload)?;
+    if begins_with_key(payload, start) {
+        let part = keys_first(alloc, payload, start, &head)?;
+        return written_layer(alloc, payload, &part);
+    }
+    let frame = frame_of(alloc, payload, start, &head)?;
     match seen_of(alloc, &mut Ignore, payload, frame) {
         Ok(Seen::All(layer)) => Ok(Known::Copied(layer)),
-        Ok(Seen::First(part)) => {
-            let writer = write_behind(alloc, payload, &part)?;
-            Ok(Known::Written(RewrittenLayer {
-                name: part.name,
-                extent: part.extent,
-                writer,
-                visitor: Ignore,
-            }))
-        }
+        Ok(Seen::First(part)) => written_layer(alloc, payload, &part),
         Err(error) => Err(error),
     }
+}
+
+/// A layer whose first features are canonical, with the others made so.
+fn written_layer<'a>(
+    alloc: Global,
+    payload: &[u8],
+    part: &Part<'a>,
+) -> Result<Known<'a>, NotCanonical>
+    requires small { length payload.now ≤ LIMIT }
+    requires part { IsPartOf payload.now part.now }
+    ensures { IfOk result (IsKnown payload.now) }
+{
+    let writer = write_behind(alloc, payload, part)?;
+    Ok(Known::Written(RewrittenLayer {
+        name: part.name,
+        extent: part.extent,
+        writer,
+        visitor: Ignore,
+    }))
 }
 
 /// A layer whose features haven't been looked at: its name and its extent, and where they and the
@@ -101,22 +119,40 @@ pub(crate) fn bounds_of(frame: &Frame<'_>) -> (usize, usize)
     (frame.features_at, frame.front.end_at)
 }
 
-/// The frame of a layer whose version, name and extent stand in front of the others or after them,
-/// in any order.
-fn frame_of(alloc: Global, body: &[u8]) -> Result<Frame<'_>, NotCanonical>
-    ensures { IfOk result (IsFrameOf body.now) }
+/// What stands in front of the features, keys and values of a layer, and the offset after it.
+fn head_of(body: &[u8]) -> Result<(Around<'_>, usize), NotCanonical>
+    ensures head { IfOk result (λ f. IsHead body.now f.0 f.1) }
+    ensures within { IfOk result (λ f. f.1 ≤ length body.now) }
 {
     let nothing = Around {
         has_version: false,
         name: None,
         extent: None,
     };
-    let (head, features_at) = around_from(body, 0, &nothing);
+    let (head, start) = around_from(body, 0, &nothing);
     if !may_be_whole(body, &head) {
         return Err(NotCanonical::Other);
     }
+    Ok((head, start))
+}
+
+/// The frame of a layer whose version, name and extent stand in front of the others or behind them,
+/// in any order.
+fn frame_of<'a>(
+    alloc: Global,
+    body: &'a [u8],
+    features_at: usize,
+    head: &Around<'a>,
+) -> Result<Frame<'a>, NotCanonical>
+    requires within { features_at ≤ length body.now }
+    requires head { IsHead body.now head.now features_at }
+    ensures { IfOk result (IsFrameOf body.now) }
+{
+    if !may_be_put_in_order(body, features_at) {
+        return Err(NotCanonical::Other);
+    }
     let front = front_of(alloc, body, features_at)?;
-    let (around, end) = around_from(body, end_of(&front), &head);
+    let (around, end) = around_from(body, end_of(&front), head);
     if end != body.len() {
         return Err(NotCanonical::Other);
     }
@@ -146,6 +182,8 @@ pub(crate) struct Part<'a> {
     pub(crate) name: &'a str,
     pub(crate) extent: u32,
     pub(crate) features_at: usize,
+    /// The offset after the features.
+    pub(crate) features_end: usize,
     pub(crate) front: Front<'a>,
     pub(crate) keys: Vec<Text>,
     pub(crate) reached: Reached,
@@ -157,7 +195,7 @@ pub(crate) struct Front<'a> {
     /// Whether no key and no value stands twice, as far as is known.
     pub(crate) is_apart: bool,
     pub(crate) keys_at: usize,
-    keys: Vec<&'a [u8]>,
+    pub(crate) keys: Vec<&'a [u8]>,
     values_at: usize,
     pub(crate) values: Vec<&'a [u8]>,
     /// The offset after the values.
@@ -172,7 +210,7 @@ pub(crate) struct Reached {
     /// How many keys and values they use.
     pub(crate) used: (usize, usize),
     /// Whether there are no others.
-    is_whole: bool,
+    pub(crate) is_whole: bool,
 }
 
 /// Looks at the features of a layer that has this frame. A visitor is told those that are
@@ -204,6 +242,7 @@ pub(crate) fn seen_of<'a, V: CanonicalVisitor>(
             name,
             extent,
             features_at,
+            features_end: front.keys_at,
             front,
             keys,
             reached,
@@ -219,8 +258,8 @@ pub(crate) fn seen_of<'a, V: CanonicalVisitor>(
     }))
 }
 
-/// The front of a layer whose features begin at an offset. It costs little where the fields, or
-/// those of the first feature, stand in another order.
+/// The front of a layer whose features begin at an offset. It costs little where the fields stand
+/// in another order.
 pub(crate) fn front_of(
     alloc: Global,
     body: &[u8],
@@ -230,13 +269,24 @@ pub(crate) fn front_of(
     ensures front { IfOk result (IsFrontOf body.now) }
     ensures behind { IfOk result (λ front. features_at ≤ front.keys_at) }
 {
-    if !may_begin_in_order(body, features_at) {
-        return Err(NotCanonical::Other);
-    }
     let keys_at = after_features(body, features_at);
     let Some(counts) = counts_from(alloc, body, keys_at)? else {
         return Err(NotCanonical::Other);
     };
+    front_from(alloc, body, keys_at, &counts)
+}
+
+/// The front of a layer whose keys begin at an offset. There is room for so many at first.
+pub(crate) fn front_from<'a>(
+    alloc: Global,
+    body: &'a [u8],
+    keys_at: usize,
+    counts: &Counts,
+) -> Result<Front<'a>, NotCanonical>
+    requires { keys_at ≤ length body.now }
+    ensures front { IfOk result (IsFrontOf body.now) }
+    ensures at { IfOk result (λ front. front.keys_at ≡ keys_at) }
+{
     let (keys, values_at) = keys_from(alloc, body, keys_at, counts.keys)?;
     if !may_be_texts(&keys, body.len() - values_at) {
         return Err(NotCanonical::Other);
@@ -253,7 +303,7 @@ pub(crate) fn front_of(
 }
 
 /// The offset after the features, whatever they are.
-fn after_features(body: &[u8], start: usize) -> usize
+pub(crate) fn after_features(body: &[u8], start: usize) -> usize
     requires { start ≤ length body.now }
     ensures within { result ≤ length body.now }
     ensures behind { start ≤ result }
@@ -285,7 +335,7 @@ fn keys_from(
 }
 
 /// The texts that these bytes are, where they are texts.
-fn texts_of(alloc: Global, payloads: &[&[u8]]) -> Result<Option<Vec<Text>>, AllocError>
+pub(crate) fn texts_of(alloc: Global, payloads: &[&[u8]]) -> Result<Option<Vec<Text>>, AllocError>
     ensures are { IfOk result (λ found. IfSome found (λ texts. texts.items ≡ lent payloads.now)) }
     ensures texts { IfOk result (λ found. IfSome found
         (λ texts. AllByRecursion IsUtf8 texts.items)) }

@@ -5,11 +5,12 @@ ghost use Rattle.mvt_base.specs.Related.{AreRelated};
 ghost use Rattle.mvt_attrs.specs.declared.value.Value.{Value as AValue};
 ghost use Rattle.mvt_attrs.specs.FirstUses.{lent};
 ghost use Rattle.mvt_feature.specs.Values.{IsValueOf};
-ghost use Rattle.mvt_message.specs.Resuming.{AreFeaturesRead, IsPartOf, IsWrittenUpTo};
+ghost use Rattle.mvt_message.specs.Resuming.{AreFeaturesRead, IsOrderedUpTo, IsPartOf, IsWrittenUpTo};
 
 use crate::layer_copying::Part;
-use crate::layer_writer::{FEATURE_ROOM, LayerWriter};
+use crate::layer_writer::LayerWriter;
 use crate::numbers::layer;
+use crate::ordering::order_from;
 use mvt_attrs::{LayerEntries, LayerKeys, UsedEntries, Value};
 use mvt_base::{LIMIT, Text};
 use mvt_feature::{MessageError, NotCanonical, Scratch, read_value, rewrite_feature};
@@ -29,31 +30,36 @@ pub(crate) fn write_behind(
 ) -> Result<LayerWriter, NotCanonical>
     requires small { length body.now ≤ LIMIT }
     requires part { IsPartOf body.now part.now }
-    ensures { IfOk result (IsWrittenUpTo body.now part.now part.now.front.keys_at) }
+    ensures { IfOk result (IsWrittenUpTo body.now part.now part.now.features_end) }
 {
-    let mut writer = first_writer(alloc, body, part)?;
+    let (mut writer, mut at) = first_writer(alloc, body, part)?;
     let mut keys = LayerKeys::new(alloc, &part.keys);
     let mut scratch = Scratch::for_payload(alloc, body.len())?;
-    let mut at = part.reached.at;
-    while at < part.front.keys_at {
+    while at < part.features_end {
         at = write_next(alloc, body, at, &mut keys, &mut writer, &mut scratch)?;
     }
-    if at != part.front.keys_at {
+    if at != part.features_end {
         return Err(NotCanonical::Other);
     }
     Ok(writer)
 }
 
-/// A writer that has the features that are canonical.
-fn first_writer(alloc: Global, body: &[u8], part: &Part<'_>) -> Result<LayerWriter, NotCanonical>
+/// A writer that has the features that are canonical or put in order, and the offset after them.
+fn first_writer(
+    alloc: Global,
+    body: &[u8],
+    part: &Part<'_>,
+) -> Result<(LayerWriter, usize), NotCanonical>
     requires small { length body.now ≤ LIMIT }
     requires part { IsPartOf body.now part.now }
-    ensures { IfOk result (IsWrittenUpTo body.now part.now part.now.reached.at) }
+    ensures written { IfOk result (λ f. IsWrittenUpTo body.now part.now f.1 f.0) }
+    ensures within { IfOk result (λ f. f.1 ≤ length body.now) }
 {
     if part.front.is_apart {
         return copied_writer(alloc, body, part);
     }
-    listed_writer(alloc, body, part)
+    let writer = listed_writer(alloc, body, part)?;
+    Ok((writer, part.reached.at))
 }
 
 /// A writer that has the keys and the values of a layer in which one stands twice, and no feature.
@@ -70,27 +76,48 @@ fn listed_writer(alloc: Global, body: &[u8], part: &Part<'_>) -> Result<LayerWri
     Ok(writer)
 }
 
-/// A writer that has the features that are canonical, as they stand.
-fn copied_writer(alloc: Global, body: &[u8], part: &Part<'_>) -> Result<LayerWriter, NotCanonical>
+/// A writer that has the features that are canonical, as they stand, and those behind them that are
+/// put in order; and the offset after these.
+fn copied_writer(
+    alloc: Global,
+    body: &[u8],
+    part: &Part<'_>,
+) -> Result<(LayerWriter, usize), NotCanonical>
     requires small { length body.now ≤ LIMIT }
     requires part { IsPartOf body.now part.now }
     requires apart { IsTrue part.now.front.is_apart }
-    ensures { IfOk result (IsWrittenUpTo body.now part.now part.now.reached.at) }
+    ensures written { IfOk result (λ f. IsWrittenUpTo body.now part.now f.1 f.0) }
+    ensures within { IfOk result (λ f. f.1 ≤ length body.now) }
 {
-    let reached = &part.reached;
+    let mut writer = copied_features(alloc, body, part)?;
+    let (at, used) = order_from(alloc, body, part, &mut writer)?;
     let texts = copies_of(alloc, &part.keys)?;
     let held = values_of(alloc, &part.front.values)?;
-    let keys = UsedEntries::of_apart(alloc, texts, reached.used.0)?;
-    let values = UsedEntries::of_apart(alloc, held, reached.used.1)?;
-    let mut payload = Vec::new(alloc);
-    payload.reserve(body.len().min(FEATURE_ROOM))?;
-    let mut features = Vec::with_capacity(alloc, body.len())?;
-    features.extend_from_slice(&body[part.features_at..reached.at])?;
-    Ok(LayerWriter {
+    let keys = UsedEntries::of_apart(alloc, texts, used.0)?;
+    let values = UsedEntries::of_apart(alloc, held, used.1)?;
+    let LayerWriter {
+        payload, features, ..
+    } = writer;
+    let writer = LayerWriter {
         uses: LayerEntries { keys, values },
         payload,
         features,
-    })
+    };
+    Ok((writer, at))
+}
+
+/// A writer that has the features alone that are canonical.
+fn copied_features(alloc: Global, body: &[u8], part: &Part<'_>) -> Result<LayerWriter, NotCanonical>
+    requires small { length body.now ≤ LIMIT }
+    requires part { IsPartOf body.now part.now }
+    requires apart { IsTrue part.now.front.is_apart }
+    ensures { IfOk result (λ writer. IsOrderedUpTo body.now part.now part.now.reached.at
+        part.now.reached.used writer.features.items) }
+{
+    let mut writer = LayerWriter::with_room(alloc, body.len())?;
+    let copied = &body[part.features_at..part.reached.at];
+    writer.features.extend_from_slice(copied)?;
+    Ok(writer)
 }
 
 /// The values of these payloads.

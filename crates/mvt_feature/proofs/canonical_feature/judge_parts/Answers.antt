@@ -10,13 +10,13 @@ pub returns-clause-found : goal.returns-clause-found
 returns-clause-found g c = λ held count ready.
     let keys = c.args.keys.now in
     let tags = c.take_numbers.new.numbers.items in
-    let (tags_are, _) = c.in_ok-take_numbers.ensures in
+    let (tags_are, small) = c.in_ok-take_numbers.ensures in
     let (ints, packed, geometry, draws, told) = c.in_ok-is_drawn.ensures.drawn c.if-not-is_drawn.false in
     let ints_are = c.are_short.ensures c.if-not-are_short.false ints packed in
     let no_tag_fault : tag_fault keys held tags ≡ None =
     subst (λ ts. tag_fault keys held ts ≡ None) c.deref-2.ensures.value (c.in-Ok.ensures.ok held count) in
     feature_found (HasDrawn g.V.GeometryVisitor.has_parts g.V.GeometryVisitor.has_integers c.args.visitor.now c.draw_packed.new.visitor)
-    c.args.parts.now keys held tags ints geometry c.args.used c.in-Some.after ready c.requires.id tags_are ints_are no_tag_fault draws told
+    c.args.parts.now keys held tags ints geometry c.args.used c.in-Some.after ready c.requires.id tags_are small ints_are no_tag_fault draws told
     (λ attributes names.
     c.in-Some.ensures keys held attributes ready.keys_apart ready.values_apart ready.keys_within ready.values_within
     (subst (λ ts. Names keys held ts attributes) (sym c.deref.ensures.value) names))

@@ -1,4 +1,4 @@
-use Rattle.std.proofs.Common.{List, ℕ, Bool, true, false, not, ◌≡◌, ◌≤◌, refl, length, ◌∙◌, ap, sym, subst, arith}
+use Rattle.std.proofs.Common.{List, ℕ, Bool, true, false, not, ◌≡◌, ◌≤◌, inl, refl, length, ◌∙◌, ap, sym, subst, arith}
 use Rattle.std.specs.Prelude.{IsTrue, IsUtf8}
 use Rattle.std.specs.List.{AllByRecursion}
 use Rattle.mvt_attrs.specs.declared.value.Value.{Value}
@@ -75,7 +75,7 @@ returns-then-not-reached-clause-seen g c = λ items has.
     → g.V.CanonicalVisitor.has_read items c.judge_features.new.visitor fs in
     let texts_are : keys ≡ lent front.keys.items = (rw c.in-Some.is at c.in_ok-keys.ensures.are) ∙ ap lent c.deref.ensures.value in
     let texts : AllByRecursion IsUtf8 keys = rw c.in-Some.is at c.in_ok-keys.ensures.texts in
-    part_is WereTold body _ frame.around frame.is_front (omega (arith, frame.behind, frame.is_front.keys_within))
+    part_is WereTold body _ start front.end_at frame.around (inl (refl, refl, refl)) frame.is_front (omega (arith, frame.behind, frame.is_front.keys_within))
     c.in_ok-reached.ensures.within.2 texts_are texts
     (subst (λ ks. (held : List Value) → length held ≡ length front.values.items → AreReady ks held (0, 0)
     → AreFeaturesFrom WereTold body start ks held reached.at reached.used)

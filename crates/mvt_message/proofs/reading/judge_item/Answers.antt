@@ -1,4 +1,4 @@
-use Rattle.std.proofs.Common.{◌≡◌, ℕ, List, [], ◌∷◌, ap, ◌∙◌}
+use Rattle.std.proofs.Common.{◌≡◌, [], ◌∷◌, ap, ◌∙◌}
 use Rattle.mvt_message.specs.declared.reading.LayerJudge.{LayerJudge}
 use Rattle.mvt_message.specs.declared.visiting.Visited.TheVariants.{Layer, Foreign}
 use Rattle.mvt_message.specs.Items.{names_in}

@@ -1,10 +1,10 @@
-use Rattle.std.proofs.Common.{◌≡◌, ◌++◌, ◌-◌, length, take, drop, ap, sym, subst, ◌∙◌, arith}
+use Rattle.std.proofs.Common.{◌≡◌, length, take, ap, refl, sym, subst, ◌∙◌, arith}
 use Rattle.mvt_base.specs.Related.{AreRelated}
 use Rattle.mvt_attrs.specs.FirstUse.{AreDistinct}
 use Rattle.mvt_attrs.specs.FirstUses.{lent}
 use Rattle.mvt_attrs.specs.Using.{AreUsesOf}
 use Rattle.mvt_feature.specs.Values.{IsValueOf}
-use Rattle.mvt_message.proofs.ResumeLemmas.{few_keys, few_values, held_apart, values_are_held, written_start}
+use Rattle.mvt_message.proofs.ResumeLemmas.{few_keys, few_values, held_apart, values_are_held, ordered_written}
 use Rattle.mvt_message.proofs.resuming.copied_writer.Goals as goal
 
 pub of_apart-requires-clause-few : goal.of_apart-requires-clause-few
@@ -33,29 +33,32 @@ of_apart-requires-2-clause-apart c =
     subst AreDistinct (sym same) (held_apart c.args.body.now front is.held c.requires.small is.held_are
     (is.is_front.values_apart c.requires.apart))
 
+pub of_apart-requires-clause-within : goal.of_apart-requires-clause-within
+of_apart-requires-clause-within c =
+    let within = c.in_ok-at.ensures.ordered.ordered.ready.keys_within in
+    omega (arith, within, ap length (c.in_ok-texts.ensures ∙ c.deref.ensures.value))
+
 pub of_apart-requires-2-clause-within : goal.of_apart-requires-2-clause-within
 of_apart-requires-2-clause-within c =
     let front = c.args.part.now.front in
-    let is = c.requires.part in
+    let is = c.in_ok-at.ensures.ordered in
     let read = c.in_ok-held.held.items in
     let same = values_are_held c.args.body.now front is.held c.requires.small is.held_are read
     (subst (λ ps. AreRelated IsValueOf (lent ps) read) c.deref-2.ensures.value c.in_ok-held.ensures) in
-    omega (arith, ap length same, (is.from c.requires.apart).ready.values_within)
+    omega (arith, ap length same, is.ordered.ready.values_within)
 
-pub returns : goal.returns
-returns c =
+pub returns-clause-written : goal.returns-clause-written
+returns-clause-written c =
     let part = c.args.part.now in
-    let is = c.requires.part in
-    let used = part.reached.used in
+    let is = c.in_ok-at.ensures.ordered in
+    let used = c.in_ok-at.used in
     let read = c.in_ok-held.held.items in
     let texts_are : c.in_ok-texts.texts.items ≡ part.keys.items = c.in_ok-texts.ensures ∙ c.deref.ensures.value in
     let same = values_are_held c.args.body.now part.front is.held c.requires.small is.held_are read
     (subst (λ ps. AreRelated IsValueOf (lent ps) read) c.deref-2.ensures.value c.in_ok-held.ensures) in
-    written_start c.args.body.now part _ c.requires.small is c.requires.apart (
+    ordered_written c.args.body.now part c.in_ok-at.at used _ _ is (
       subst (AreUsesOf c.in_ok-keys.keys) texts_are c.in_ok-keys.ensures.uses,
       subst (AreUsesOf c.in_ok-values.values) same
           c.in_ok-values.ensures.uses,
     )
-    (c.in_ok-keys.ensures.used ∙ ap (take used.0) texts_are) (c.in_ok-values.ensures.used ∙ ap (take used.1) same)
-    (c.in_ok-extend_from_slice.ensures.items
-    ∙ ap (λ fs. fs ++ take (part.reached.at - part.features_at) (drop part.features_at c.args.body.now)) c.in_ok-features.ensures.items)
+    (c.in_ok-keys.ensures.used ∙ ap (take used.0) texts_are) (c.in_ok-values.ensures.used ∙ ap (take used.1) same) refl
