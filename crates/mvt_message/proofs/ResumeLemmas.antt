@@ -31,16 +31,16 @@ use Rattle.mvt_message.specs.declared.item.Layer.{Layer as ALayer}
 use Rattle.mvt_message.specs.declared.item.Item.TheVariants.{Layer}
 use Rattle.mvt_message.specs.declared.layer_writer.LayerWriter.{LayerWriter}
 use Rattle.mvt_message.specs.declared.numbers.layer.TheConstants.{FEATURES, KEYS, VALUES}
-use Rattle.mvt_message.specs.CanonicalItems.{keys_of, values_of, canonical_item, head_fields, feature_field, key_field, value_field}
+use Rattle.mvt_message.specs.CanonicalItems.{keys_of, values_of, canonical_item, head_fields, extent_fields, feature_field, key_field, value_field}
 use Rattle.mvt_message.specs.Around.{IsAround}
-use Rattle.mvt_message.specs.Copying.{AreFeaturesFrom, IsFrontOf}
+use Rattle.mvt_message.specs.Copying.{core_with, AreFeaturesFrom, IsCopied, IsFrontOf, lent_field}
 use Rattle.mvt_message.specs.Items.{IsItem}
 use Rattle.mvt_message.specs.LayerFields.{bytes_of}
 use Rattle.mvt_message.specs.Resuming.{payload_field, AreFeaturesRead, AreHeld, AreOrderedFrom, IsOrderedUpTo, IsPartOf, IsPlaced, IsWrittenUpTo}
 use Rattle.mvt_message.specs.Rewriting.{AreWritten, HasWritten, tail_of}
 use Rattle.mvt_message.specs.ValidItems.{ValidItem}
 use Rattle.mvt_message.proofs.CanonicalLemmas.{feature_bytes, count_bytes, features_read, more_enough, item_around, item_turned}
-use Rattle.mvt_message.proofs.CopyingLemmas.{all_dropped, features_stay, fields_end, keys_are_from, length-mapped, mapped_more, parts_spelled, ready_values, told_weaker, values_apart}
+use Rattle.mvt_message.proofs.CopyingLemmas.{all_dropped, canonical_from, features_stay, fields_end, keys_are_from, length-mapped, mapped_more, parts_spelled, ready_values, told_weaker, used_keys_part, used_values_part, values_apart}
 use Rattle.mvt_message.proofs.PoolLemmas.{keys_front, keys_more, values_front, values_more}
 use Rattle.mvt_message.proofs.RewriteLemmas.{layer_rewritten}
 use Rattle.mvt_message.proofs.ValidLemmas.{item_valid}
@@ -133,8 +133,8 @@ module _ (keys : List (List ℕ)) (values : List Value) (features : List Feature
   all_values : values_of features ++ drop used.1 values ≡ values
   all_values = ap (λ vs. vs ++ drop used.1 values) values_are ∙ take-append-drop used.1 values
 
-  own : map (feature_field keys values) features ≡ map (feature_field (keys_of features) (values_of features)) features
-  own =
+  pub own_fields : map (feature_field keys values) features ≡ map (feature_field (keys_of features) (values_of features)) features
+  own_fields =
       ap₂ (λ ks vs. map (feature_field ks vs) features) (sym all_keys) (sym all_values)
       ∙ features_stay features (drop used.0 keys) (drop used.1 values)
 
@@ -142,7 +142,7 @@ module _ (keys : List (List ℕ)) (values : List Value) (features : List Feature
   stay_written more =
       let more_keys = keys_front features more in
       let more_values = values_front features more in
-      ap spelled (own ∙ sym (features_stay features more_keys.0 more_values.0)
+      ap spelled (own_fields ∙ sym (features_stay features more_keys.0 more_values.0)
       ∙ ap₂ (λ ks vs. map (feature_field ks vs) features) (sym more_keys.1) (sym more_values.1))
 
   pub stay_in : AllByRecursion ValidFeature features → AllByRecursion IsUtf8 keys → AllByRecursion ValidValue values
@@ -308,65 +308,103 @@ in_a_row body head a b c tail start second third end begins first then last ends
     regroup : (f k v d : List ℕ) → f ++ (k ++ (v ++ d)) ≡ (f ++ (k ++ v)) ++ d
     regroup f k v d = simp append_assoc
 
+-- the layer of a part that has these features
+abbrev made : Part → List Feature → ALayer
+made part features = record { name = part.name.now; extent = part.extent; features = features }
+
+layer_of : (body : List ℕ) (part : Part) (held : List Value) (payloads : List (List ℕ)) (features : List Feature) → length body ≤ LIMIT
+    → IsPartOf body part → AreHeld body part.front held
+    → drop part.features_at body ≡ spelled (map payload_field payloads) ++ drop part.features_end body
+    → AreRelated (λ p f. IsFeatureOf p part.keys.items held f) payloads features → IsItem body (Layer (made part features))
+layer_of body part held payloads features few is held_are fields are = by_place is.placed
+  where
+    keys : List (List ℕ)
+    keys = part.keys.items
+
+    own : List Plain
+    own = map payload_field payloads
+
+    key_part : List Plain
+    key_part = map key_field keys
+
+    value_part : List Plain
+    value_part = map value_field held
+
+    features_held : (zs : List Entry) → map (λ (z : Entry). z.content) zs ≡ map (λ p. bytes p) payloads
+        → AreRelated (λ (z : Entry) f. IsFeatureOf (bytes_of z.content) keys held f) zs features
+    features_held zs same = held_features (λ p f. IsFeatureOf p keys held f) zs payloads features same are
+
+    keys_stand : drop part.front.keys_at body ≡ spelled key_part ++ drop part.front.values_at body
+    keys_stand =
+        (keys_are_from body part.front.keys_at part.front.values_at part.front.keys.items keys is.is_front.keys is.keys_are is.texts).1
+
+    by_place : IsPlaced part is.start is.end → IsItem body (Layer (made part features))
+    by_place (inl (start, behind, end)) =
+        item_around (λ p. p) payloads keys held (made part features) is.around.head is.around.tail body
+        (in_a_row body is.around.head own key_part value_part is.around.tail part.features_at part.front.keys_at part.front.values_at
+        part.front.end_at (is.around.begins ∙ ap (λ n. spelled is.around.head ++ drop n body) start)
+        (fields ∙ ap (λ n. spelled own ++ drop n body) behind) keys_stand held_are.fields
+        (ap (λ n. drop n body) (sym end) ∙ is.around.ends))
+        (omega (arith, few)) is.around.head_fit is.around.tail_fit is.around.alike is.around.text is.around.small is.texts
+        held_are.valid features_held
+    by_place (inr (start, behind, end)) =
+        item_turned (λ p. p) payloads keys held (made part features) is.around.head is.around.tail body
+        (in_a_row body is.around.head key_part value_part own is.around.tail part.front.keys_at part.front.values_at part.front.end_at
+        part.features_end (is.around.begins ∙ ap (λ n. spelled is.around.head ++ drop n body) start) keys_stand held_are.fields
+        (ap (λ n. drop n body) (sym behind) ∙ fields) (ap (λ n. drop n body) (sym end) ∙ is.around.ends))
+        (omega (arith, few)) is.around.head_fit is.around.tail_fit is.around.alike is.around.text is.around.small is.texts
+        held_are.valid features_held
+
 -- the layer whose features were all written
-module _ (body : List ℕ) (part : Part) (w : LayerWriter) (few : length body ≤ LIMIT) (is : IsPartOf body part)
-    (written : IsWrittenUpTo body part part.features_end w) where
-  abbrev made : ALayer
-  made = record { name = part.name.now; extent = part.extent; features = written.read.features }
+pub layer_written : (body : List ℕ) (part : Part) (w : LayerWriter) → length body ≤ LIMIT → IsPartOf body part
+    → IsWrittenUpTo body part part.features_end w → AreBytes body
+    → (layer : ALayer) × IsItem body (Layer layer) × ValidItem (Layer layer) × (part.name.now ≡ layer.name) × Unit {0}
+    × (canonical_item (Layer layer) ≡ spelled (head_fields part.name.now) ++ (w.features.items ++ tail_of w.uses part.extent))
+layer_written body part w few is written are_bytes =
+    let read = written.read in
+    let layer = made part read.features in
+    let item = layer_of body part written.held read.payloads read.features few is written.held_are read.fields read.are in (
+      layer,
+      item,
+      item_valid body (Layer layer) are_bytes item,
+      refl,
+      tt,
+      layer_rewritten layer part.name.now part.extent w.uses w.features.items refl refl read.written.keys_are read.written.values_are
+          read.written.written,
+    )
 
-  features_held : (zs : List Entry) → map (λ (z : Entry). z.content) zs ≡ map (λ p. bytes p) written.read.payloads
-      → AreRelated (λ (z : Entry) f. IsFeatureOf (bytes_of z.content) part.keys.items written.held f) zs written.read.features
-  features_held zs same =
-      held_features (λ p f. IsFeatureOf p part.keys.items written.held f) zs written.read.payloads written.read.features same
-      written.read.are
-
-  item : IsItem body (Layer made)
-  item = by_place is.placed
-    where
-      own : List Plain
-      own = map payload_field written.read.payloads
-
-      key_part : List Plain
-      key_part = map key_field part.keys.items
-
-      value_part : List Plain
-      value_part = map value_field written.held
-
-      keys_stand : drop part.front.keys_at body ≡ spelled key_part ++ drop part.front.values_at body
-      keys_stand =
-          (keys_are_from body part.front.keys_at part.front.values_at part.front.keys.items part.keys.items is.is_front.keys is.keys_are
-          is.texts).1
-
-      by_place : IsPlaced part is.start is.end → IsItem body (Layer made)
-      by_place (inl (start, behind, end)) =
-          item_around (λ p. p) written.read.payloads part.keys.items written.held made is.around.head is.around.tail body
-          (in_a_row body is.around.head own key_part value_part is.around.tail part.features_at part.front.keys_at part.front.values_at
-          part.front.end_at (is.around.begins ∙ ap (λ n. spelled is.around.head ++ drop n body) start)
-          (written.read.fields ∙ ap (λ n. spelled own ++ drop n body) behind) keys_stand written.held_are.fields
-          (ap (λ n. drop n body) (sym end) ∙ is.around.ends))
-          (omega (arith, few)) is.around.head_fit is.around.tail_fit is.around.alike is.around.text is.around.small is.texts
-          written.held_are.valid features_held
-      by_place (inr (start, behind, end)) =
-          item_turned (λ p. p) written.read.payloads part.keys.items written.held made is.around.head is.around.tail body
-          (in_a_row body is.around.head key_part value_part own is.around.tail part.front.keys_at part.front.values_at part.front.end_at
-          part.features_end (is.around.begins ∙ ap (λ n. spelled is.around.head ++ drop n body) start) keys_stand
-          written.held_are.fields (ap (λ n. drop n body) (sym behind) ∙ written.read.fields)
-          (ap (λ n. drop n body) (sym end) ∙ is.around.ends))
-          (omega (arith, few)) is.around.head_fit is.around.tail_fit is.around.alike is.around.text is.around.small is.texts
-          written.held_are.valid features_held
-
-  pub layer_written : AreBytes body
-      → (layer : ALayer) × IsItem body (Layer layer) × ValidItem (Layer layer) × (part.name.now ≡ layer.name) × Unit {0}
-      × (canonical_item (Layer layer) ≡ spelled (head_fields part.name.now) ++ (w.features.items ++ tail_of w.uses part.extent))
-  layer_written are_bytes = (
-    made,
-    item,
-    item_valid body (Layer made) are_bytes item,
-    refl,
-    tt,
-    layer_rewritten made part.name.now part.extent w.uses w.features.items refl refl written.read.written.keys_are
-        written.read.written.values_are written.read.written.written,
-  )
+-- the layer whose features were all put in order
+pub layer_ordered : (body : List ℕ) (part : Part) (used : ℕ × ℕ) (out : List ℕ) (keys_end values_end : ℕ) → length body ≤ LIMIT
+    → IsPartOf body part → IsOrderedUpTo body part part.features_end used out
+    → keys_end + length (spelled (map (lent_field KEYS) (drop used.0 part.front.keys.items))) ≡ part.front.values_at
+    → values_end + length (spelled (map (lent_field VALUES) (drop used.1 part.front.values.items))) ≡ part.front.end_at
+    → AreBytes body
+    → IsCopied body part.name.now (spelled (head_fields part.name.now) ++ ((out
+    ++ (take (keys_end - part.front.keys_at) (drop part.front.keys_at body)
+    ++ take (values_end - part.front.values_at) (drop part.front.values_at body))) ++ spelled (extent_fields part.extent)))
+layer_ordered body part used out keys_end values_end few is ordered keys_end_is values_end_is are_bytes =
+    let o = ordered.ordered in
+    let features = o.features in
+    let layer = made part features in
+    let front = part.front in
+    let keys = part.keys.items in
+    let held = ordered.held in
+    let held_are = ordered.held_are in
+    let item = layer_of body part held o.payloads features few is held_are o.fields o.are in
+    let key_part = used_keys_part body front.keys_at front.values_at keys_end used.0 front.keys.items keys is.is_front.keys is.keys_are
+    is.is_front.keys_within keys_end_is in
+    let value_part = used_values_part body front.values_at front.end_at values_end used.1 front.values.items held held_are.fields
+    held_are.are is.is_front.keys.0 is.is_front.values.0 values_end_is in
+    let k = take (keys_end - front.keys_at) (drop front.keys_at body) in
+    let v = take (values_end - front.values_at) (drop front.values_at body) in
+    let own_keys = keys_of features in
+    let own_values = values_of features in
+    let core : out ++ (k ++ v) ≡ spelled (core_with own_keys own_values features) =
+    ap₂ (λ f r. f ++ r) (o.written ∙ ap spelled (own_fields keys held features used o.keys_are o.values_are))
+    (ap₂ (λ a b. a ++ b) (key_part ∙ ap (λ ks. spelled (map key_field ks)) (sym o.keys_are))
+    (value_part ∙ ap (λ vs. spelled (map value_field vs)) (sym o.values_are)))
+    ∙ sym (parts_spelled (map (feature_field own_keys own_values) features) (map key_field own_keys) (map value_field own_values)) in
+    (layer, item, item_valid body (Layer layer) are_bytes item, refl, canonical_from layer (out ++ (k ++ v)) core)
 
 -- a layer of which features were reached
 pub part_is : (WereTold : List Feature → Type 0) (body : List ℕ) (part : Part) (start end : ℕ)

@@ -17,11 +17,12 @@ use Rattle.mvt_message.specs.declared.layer_copying.Part.{Part}
 use Rattle.mvt_message.specs.declared.layer_copying.Seen.{Seen}
 use Rattle.mvt_message.specs.declared.layer_copying.Seen.TheVariants.{All, First}
 use Rattle.mvt_message.specs.declared.layer_copying.Known.{Known}
-use Rattle.mvt_message.specs.declared.layer_copying.Known.TheVariants.{Copied, Written}
+use Rattle.mvt_message.specs.declared.layer_copying.Known.TheVariants.{Copied, Ordered, Written}
+use Rattle.mvt_message.specs.declared.resuming.OrderedLayer.{OrderedLayer}
 use Rattle.mvt_message.specs.declared.layer_rewriting.Rewritten.TheVariants.{Layer}
 use Rattle.mvt_message.specs.declared.layer_writer.LayerWriter.{LayerWriter}
 use Rattle.mvt_message.specs.declared.numbers.layer.TheConstants.{FEATURES}
-use Rattle.mvt_message.specs.CanonicalItems.{feature_field, keys_of, value_field, values_of}
+use Rattle.mvt_message.specs.CanonicalItems.{extent_fields, feature_field, head_fields, keys_of, value_field, values_of}
 use Rattle.mvt_message.specs.Around.{IsAround}
 use Rattle.mvt_message.specs.Copying.{AreFeaturesFrom, IsCopied, IsCoreOf, IsFrontOf, copied_core, copied_payload}
 use Rattle.mvt_message.specs.Rewriting.{HasWritten, IsRewrittenAs}
@@ -103,7 +104,14 @@ abbrev pub IsSeenWithin : ℕ → Seen → Type 0
 IsSeenWithin most (All layer) = length layer.front.now + length layer.values.now ≤ most
 IsSeenWithin most (First part) = Unit {0}
 
+-- the payload that is made where all features were put in order
+abbrev pub ordered_payload : OrderedLayer → List ℕ
+ordered_payload layer =
+    spelled (head_fields layer.name.now)
+    ++ ((layer.features.items ++ (layer.keys.now ++ layer.values.now)) ++ spelled (extent_fields layer.extent))
+
 -- the layer of a payload, made canonical
 abbrev pub IsKnown : List ℕ → Known → Type 0
 IsKnown payload (Copied layer) = IsCopied payload layer.name.now (copied_payload layer)
+IsKnown payload (Ordered layer) = IsCopied payload layer.name.now (ordered_payload layer)
 IsKnown payload (Written layer) = IsRewrittenAs (λ _ _ _. Unit {0}) payload (Layer layer)

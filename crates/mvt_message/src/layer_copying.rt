@@ -20,7 +20,7 @@ use crate::layer_rewriting::RewrittenLayer;
 use crate::keys_first::{begins_with_key, keys_first};
 use crate::looking::{Counts, counts_from, may_be_put_in_order, may_be_texts};
 use crate::numbers::layer;
-use crate::resuming::write_behind;
+use crate::resuming::{OrderedLayer, written_layer};
 use mvt_attrs::{LayerKeys, are_distinct};
 use mvt_base::{LIMIT, Text};
 use mvt_feature::{NotCanonical, Scratch, is_canonical_value, judge_canonical};
@@ -48,7 +48,10 @@ pub(crate) enum Known<'a> {
     /// Its features, keys and values are canonical, but that its last keys and values may be
     /// unused.
     Copied(CopiedLayer<'a>),
-    /// Its first features are: these were copied, and the others made anew.
+    /// Its features were copied or put in order, and its keys and values are canonical so far as
+    /// they are used.
+    Ordered(OrderedLayer<'a>),
+    /// Its first features were copied or put in order, and the others made anew.
     Written(RewrittenLayer<'a, Ignore>),
 }
 
@@ -74,25 +77,6 @@ pub(crate) fn known_layer(alloc: Global, payload: &[u8]) -> Result<Known<'_>, No
         Ok(Seen::First(part)) => written_layer(alloc, payload, &part),
         Err(error) => Err(error),
     }
-}
-
-/// A layer whose first features are canonical, with the others made so.
-fn written_layer<'a>(
-    alloc: Global,
-    payload: &[u8],
-    part: &Part<'a>,
-) -> Result<Known<'a>, NotCanonical>
-    requires small { length payload.now ≤ LIMIT }
-    requires part { IsPartOf payload.now part.now }
-    ensures { IfOk result (IsKnown payload.now) }
-{
-    let writer = write_behind(alloc, payload, part)?;
-    Ok(Known::Written(RewrittenLayer {
-        name: part.name,
-        extent: part.extent,
-        writer,
-        visitor: Ignore,
-    }))
 }
 
 /// A layer whose features haven't been looked at: its name and its extent, and where they and the
@@ -196,7 +180,7 @@ pub(crate) struct Front<'a> {
     pub(crate) is_apart: bool,
     pub(crate) keys_at: usize,
     pub(crate) keys: Vec<&'a [u8]>,
-    values_at: usize,
+    pub(crate) values_at: usize,
     pub(crate) values: Vec<&'a [u8]>,
     /// The offset after the values.
     pub(crate) end_at: usize,
@@ -395,7 +379,7 @@ fn are_apart(alloc: Global, keys: &[&[u8]], values: &[&[u8]]) -> Result<bool, Al
 }
 
 /// Where the used ones of some payloads end, so many, whose fields of this number end at an offset.
-fn end_of_used(number: u32, payloads: &[&[u8]], used: usize, end: usize) -> usize
+pub(crate) fn end_of_used(number: u32, payloads: &[&[u8]], used: usize, end: usize) -> usize
     requires number { number < 2 ^ 29 }
     requires used { used ≤ length payloads.now }
     requires room { length (spelled (map (lent_field number) payloads.now)) ≤ end }

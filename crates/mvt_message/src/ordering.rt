@@ -30,7 +30,7 @@ pub(crate) fn order_from(
 {
     let values = part.front.values.len();
     let mut keys = LayerKeys::new(alloc, &part.keys);
-    let mut scratch = Scratch::for_payload(alloc, body.len())?;
+    let mut scratch = Scratch::new(alloc);
     let mut used = part.reached.used;
     let mut at = part.reached.at;
     while at < part.features_end {

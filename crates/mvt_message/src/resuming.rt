@@ -5,61 +5,148 @@ ghost use Rattle.mvt_base.specs.Related.{AreRelated};
 ghost use Rattle.mvt_attrs.specs.declared.value.Value.{Value as AValue};
 ghost use Rattle.mvt_attrs.specs.FirstUses.{lent};
 ghost use Rattle.mvt_feature.specs.Values.{IsValueOf};
-ghost use Rattle.mvt_message.specs.Resuming.{AreFeaturesRead, IsOrderedUpTo, IsPartOf, IsWrittenUpTo};
+ghost use Rattle.mvt_message.specs.Copying.{IsCopied};
+ghost use Rattle.mvt_message.specs.Resuming.{AreFeaturesRead, IsKnown, IsOrderedUpTo, IsPartOf, IsWrittenUpTo, ordered_payload};
 
-use crate::layer_copying::Part;
-use crate::layer_writer::LayerWriter;
+use crate::layer_copying::{Known, Part, end_of_used};
+use crate::layer_rewriting::RewrittenLayer;
+use crate::layer_writer::{FEATURE_ROOM, LayerWriter};
 use crate::numbers::layer;
 use crate::ordering::order_from;
 use mvt_attrs::{LayerEntries, LayerKeys, UsedEntries, Value};
 use mvt_base::{LIMIT, Text};
 use mvt_feature::{MessageError, NotCanonical, Scratch, read_value, rewrite_feature};
+use mvt_geometry::Ignore;
 use mvt_wire::{Payload, put_field, short_bytes_at};
 use std::alloc::{AllocError, Global};
 
-/// Writes the features of a layer of which the first are canonical: these aren't judged again.
+/// A layer whose features were all copied or put in order: its name and its extent, the fields of
+/// its features, and those of its keys and values that these use, as they stand.
+#[derive(Drop)]
+pub(crate) struct OrderedLayer<'a> {
+    pub(crate) name: &'a str,
+    pub(crate) extent: u32,
+    pub(crate) features: Vec<u8>,
+    pub(crate) keys: &'a [u8],
+    pub(crate) values: &'a [u8],
+}
+
+/// A layer whose first features are canonical, with the others made so.
 ///
 /// # Errors
 ///
 /// When memory runs out, or where another isn't a feature; which rule it breaks isn't told.
+pub(crate) fn written_layer<'a>(
+    alloc: Global,
+    body: &'a [u8],
+    part: &Part<'a>,
+) -> Result<Known<'a>, NotCanonical>
+    requires small { length body.now ≤ LIMIT }
+    requires part { IsPartOf body.now part.now }
+    ensures { IfOk result (IsKnown body.now) }
+{
+    if part.front.is_apart {
+        return ordered_layer(alloc, body, part);
+    }
+    let writer = listed_writer(alloc, body, part)?;
+    finished_layer(alloc, body, part, part.reached.at, writer)
+}
+
+/// The same where keys and values stand once each: features are put in order as long as only their
+/// fields stand in another.
+fn ordered_layer<'a>(
+    alloc: Global,
+    body: &'a [u8],
+    part: &Part<'a>,
+) -> Result<Known<'a>, NotCanonical>
+    requires small { length body.now ≤ LIMIT }
+    requires part { IsPartOf body.now part.now }
+    requires apart { IsTrue part.now.front.is_apart }
+    ensures { IfOk result (IsKnown body.now) }
+{
+    let mut writer = copied_features(alloc, body, part)?;
+    let (at, used) = order_from(alloc, body, part, &mut writer)?;
+    if at == part.features_end {
+        let layer = whole_layer(body, part, used, writer.features);
+        return Ok(Known::Ordered(layer));
+    }
+    let writer = with_entries(alloc, body, part, at, used, writer.features)?;
+    finished_layer(alloc, body, part, at, writer)
+}
+
+/// A layer all of whose features were put in order, and use so many of its keys and values.
+fn whole_layer<'a>(
+    body: &'a [u8],
+    part: &Part<'a>,
+    used: (usize, usize),
+    features: Vec<u8>,
+) -> OrderedLayer<'a>
+    requires small { length body.now ≤ LIMIT }
+    requires part { IsPartOf body.now part.now }
+    requires ordered { IsOrderedUpTo body.now part.now part.now.features_end used features.items }
+    ensures { IsCopied body.now result.name.now (ordered_payload result) }
+{
+    let front = &part.front;
+    let extent = part.extent;
+    let keys_end = end_of_used(layer::KEYS, &front.keys, used.0, front.values_at);
+    let values_end = end_of_used(layer::VALUES, &front.values, used.1, front.end_at);
+    OrderedLayer {
+        name: part.name,
+        extent,
+        features,
+        keys: &body[front.keys_at..keys_end],
+        values: &body[front.values_at..values_end],
+    }
+}
+
+/// A layer of which a writer has the features up to an offset, with the others made anew.
+fn finished_layer<'a>(
+    alloc: Global,
+    body: &[u8],
+    part: &Part<'a>,
+    start: usize,
+    writer: LayerWriter,
+) -> Result<Known<'a>, NotCanonical>
+    requires small { length body.now ≤ LIMIT }
+    requires part { IsPartOf body.now part.now }
+    requires start { IsWrittenUpTo body.now part.now start writer }
+    requires within { start ≤ length body.now }
+    ensures { IfOk result (IsKnown body.now) }
+{
+    let mut writer = writer;
+    write_behind(alloc, body, part, start, &mut writer)?;
+    Ok(Known::Written(RewrittenLayer {
+        name: part.name,
+        extent: part.extent,
+        writer,
+        visitor: Ignore,
+    }))
+}
+
+/// Writes the features of a layer from an offset on. Those before it, which a writer has, aren't
+/// judged again.
 #[inline(never)]
-pub(crate) fn write_behind(
+fn write_behind(
     alloc: Global,
     body: &[u8],
     part: &Part<'_>,
-) -> Result<LayerWriter, NotCanonical>
-    requires small { length body.now ≤ LIMIT }
-    requires part { IsPartOf body.now part.now }
-    ensures { IfOk result (IsWrittenUpTo body.now part.now part.now.features_end) }
+    start: usize,
+    writer: &mut LayerWriter,
+) -> Result<(), NotCanonical>
+    requires start { IsWrittenUpTo body.now part.now start writer.old }
+    requires within { start ≤ length body.now }
+    ensures { OnOk result (IsWrittenUpTo body.now part.now part.now.features_end writer.new) }
 {
-    let (mut writer, mut at) = first_writer(alloc, body, part)?;
     let mut keys = LayerKeys::new(alloc, &part.keys);
     let mut scratch = Scratch::for_payload(alloc, body.len())?;
+    let mut at = start;
     while at < part.features_end {
-        at = write_next(alloc, body, at, &mut keys, &mut writer, &mut scratch)?;
+        at = write_next(alloc, body, at, &mut keys, writer, &mut scratch)?;
     }
     if at != part.features_end {
         return Err(NotCanonical::Other);
     }
-    Ok(writer)
-}
-
-/// A writer that has the features that are canonical or put in order, and the offset after them.
-fn first_writer(
-    alloc: Global,
-    body: &[u8],
-    part: &Part<'_>,
-) -> Result<(LayerWriter, usize), NotCanonical>
-    requires small { length body.now ≤ LIMIT }
-    requires part { IsPartOf body.now part.now }
-    ensures written { IfOk result (λ f. IsWrittenUpTo body.now part.now f.1 f.0) }
-    ensures within { IfOk result (λ f. f.1 ≤ length body.now) }
-{
-    if part.front.is_apart {
-        return copied_writer(alloc, body, part);
-    }
-    let writer = listed_writer(alloc, body, part)?;
-    Ok((writer, part.reached.at))
+    Ok(())
 }
 
 /// A writer that has the keys and the values of a layer in which one stands twice, and no feature.
@@ -76,34 +163,33 @@ fn listed_writer(alloc: Global, body: &[u8], part: &Part<'_>) -> Result<LayerWri
     Ok(writer)
 }
 
-/// A writer that has the features that are canonical, as they stand, and those behind them that are
-/// put in order; and the offset after these.
-fn copied_writer(
+/// A writer that has these features, which were put in order, and the keys and the values of their
+/// layer, of which they use so many.
+fn with_entries(
     alloc: Global,
     body: &[u8],
     part: &Part<'_>,
-) -> Result<(LayerWriter, usize), NotCanonical>
+    at: usize,
+    used: (usize, usize),
+    features: Vec<u8>,
+) -> Result<LayerWriter, NotCanonical>
     requires small { length body.now ≤ LIMIT }
     requires part { IsPartOf body.now part.now }
     requires apart { IsTrue part.now.front.is_apart }
-    ensures written { IfOk result (λ f. IsWrittenUpTo body.now part.now f.1 f.0) }
-    ensures within { IfOk result (λ f. f.1 ≤ length body.now) }
+    requires ordered { IsOrderedUpTo body.now part.now at used features.items }
+    ensures { IfOk result (IsWrittenUpTo body.now part.now at) }
 {
-    let mut writer = copied_features(alloc, body, part)?;
-    let (at, used) = order_from(alloc, body, part, &mut writer)?;
     let texts = copies_of(alloc, &part.keys)?;
     let held = values_of(alloc, &part.front.values)?;
     let keys = UsedEntries::of_apart(alloc, texts, used.0)?;
     let values = UsedEntries::of_apart(alloc, held, used.1)?;
-    let LayerWriter {
-        payload, features, ..
-    } = writer;
-    let writer = LayerWriter {
+    let mut payload = Vec::new(alloc);
+    payload.reserve(body.len().min(FEATURE_ROOM))?;
+    Ok(LayerWriter {
         uses: LayerEntries { keys, values },
         payload,
         features,
-    };
-    Ok((writer, at))
+    })
 }
 
 /// A writer that has the features alone that are canonical.

@@ -11,6 +11,7 @@ ghost use Rattle.mvt_message.specs.CanonicalItems.{canonical_item, head_fields};
 ghost use Rattle.mvt_message.specs.Copying.{copied_payload};
 ghost use Rattle.mvt_message.specs.ItemRules.{item_fault};
 ghost use Rattle.mvt_message.specs.Items.{IsItem, names_in};
+ghost use Rattle.mvt_message.specs.Resuming.{ordered_payload};
 ghost use Rattle.mvt_message.specs.Rewriting.{tail_of};
 ghost use Rattle.mvt_message.specs.ValidItems.{ValidItem};
 
@@ -18,6 +19,7 @@ use crate::layer_copying::{CopiedLayer, Known, known_layer};
 use crate::layer_rewriting::{Rewritten, RewrittenLayer, rewrite_parts};
 use crate::layer_writer::{put_extent, put_head};
 use crate::reading::judge_item;
+use crate::resuming::OrderedLayer;
 use mvt_base::LIMIT;
 use mvt_feature::{MessageError, NotCanonical};
 use mvt_geometry::Ignore;
@@ -56,6 +58,10 @@ pub fn rewrite_item<'a>(
             append_copied_layer(out, &layer, payload.len())?;
             Ok(Some(layer.name))
         }
+        Ok(Known::Ordered(layer)) => {
+            append_ordered(out, &layer, payload.len())?;
+            Ok(Some(layer.name))
+        }
         Ok(Known::Written(layer)) => {
             append_written(out, &layer, payload.len())?;
             Ok(Some(layer.name))
@@ -84,6 +90,23 @@ fn append_copied_layer(
     out.extend_from_slice(layer.front)?;
     out.extend_from_slice(layer.values)?;
     put_extent(out, layer.extent)
+}
+
+/// Appends a layer whose features were put in order, and whose keys and values are copied.
+fn append_ordered(
+    out: &mut Vec<u8>,
+    ordered: &OrderedLayer<'_>,
+    bytes: usize,
+) -> Result<(), AllocError>
+    ensures ok { OnOk result (out.new.items ≡ out.old.items ++ ordered_payload ordered.now) }
+    ensures left { OnErr result (Extends out.old.items out.new.items) }
+{
+    out.reserve(bytes)?;
+    put_head(out, ordered.name)?;
+    out.extend_from_slice(&ordered.features)?;
+    out.extend_from_slice(ordered.keys)?;
+    out.extend_from_slice(ordered.values)?;
+    put_extent(out, ordered.extent)
 }
 
 /// Appends the canonical parts of a layer, which rarely are more bytes than its payload has.

@@ -11,3 +11,8 @@ pub returns-in_ok-append_written-in-Ok-Written-clause-ok : goal.returns-in_ok-ap
 returns-in_ok-append_written-in-Ok-Written-clause-ok c =
     let (layer, is, valid, name, told, canonical) = rw c.in-Ok-Written.field-0-is at c.in-Ok-Written.ensures in
     item_or_fault_clean c.args.payload.now c.args.payload_at c.args.tag_at (Layer layer) is
+
+pub returns-in_ok-append_ordered-in-Ok-Ordered-clause-ok : goal.returns-in_ok-append_ordered-in-Ok-Ordered-clause-ok
+returns-in_ok-append_ordered-in-Ok-Ordered-clause-ok c =
+    let (layer, is, valid, name, canonical) = rw c.in-Ok-Ordered.field-0-is at c.in-Ok-Ordered.ensures in
+    item_or_fault_clean c.args.payload.now c.args.payload_at c.args.tag_at (Layer layer) is

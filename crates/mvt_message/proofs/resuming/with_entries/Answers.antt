@@ -5,7 +5,7 @@ use Rattle.mvt_attrs.specs.FirstUses.{lent}
 use Rattle.mvt_attrs.specs.Using.{AreUsesOf}
 use Rattle.mvt_feature.specs.Values.{IsValueOf}
 use Rattle.mvt_message.proofs.ResumeLemmas.{few_keys, few_values, held_apart, values_are_held, ordered_written}
-use Rattle.mvt_message.proofs.resuming.copied_writer.Goals as goal
+use Rattle.mvt_message.proofs.resuming.with_entries.Goals as goal
 
 pub of_apart-requires-clause-few : goal.of_apart-requires-clause-few
 of_apart-requires-clause-few c =
@@ -35,28 +35,28 @@ of_apart-requires-2-clause-apart c =
 
 pub of_apart-requires-clause-within : goal.of_apart-requires-clause-within
 of_apart-requires-clause-within c =
-    let within = c.in_ok-at.ensures.ordered.ordered.ready.keys_within in
+    let within = c.requires.ordered.ordered.ready.keys_within in
     omega (arith, within, ap length (c.in_ok-texts.ensures ∙ c.deref.ensures.value))
 
 pub of_apart-requires-2-clause-within : goal.of_apart-requires-2-clause-within
 of_apart-requires-2-clause-within c =
     let front = c.args.part.now.front in
-    let is = c.in_ok-at.ensures.ordered in
+    let is = c.requires.ordered in
     let read = c.in_ok-held.held.items in
     let same = values_are_held c.args.body.now front is.held c.requires.small is.held_are read
     (subst (λ ps. AreRelated IsValueOf (lent ps) read) c.deref-2.ensures.value c.in_ok-held.ensures) in
     omega (arith, ap length same, is.ordered.ready.values_within)
 
-pub returns-clause-written : goal.returns-clause-written
-returns-clause-written c =
+pub returns : goal.returns
+returns c =
     let part = c.args.part.now in
-    let is = c.in_ok-at.ensures.ordered in
-    let used = c.in_ok-at.used in
+    let is = c.requires.ordered in
+    let used = c.args.used in
     let read = c.in_ok-held.held.items in
     let texts_are : c.in_ok-texts.texts.items ≡ part.keys.items = c.in_ok-texts.ensures ∙ c.deref.ensures.value in
     let same = values_are_held c.args.body.now part.front is.held c.requires.small is.held_are read
     (subst (λ ps. AreRelated IsValueOf (lent ps) read) c.deref-2.ensures.value c.in_ok-held.ensures) in
-    ordered_written c.args.body.now part c.in_ok-at.at used _ _ is (
+    ordered_written c.args.body.now part c.args.at used c.args.features.items _ is (
       subst (AreUsesOf c.in_ok-keys.keys) texts_are c.in_ok-keys.ensures.uses,
       subst (AreUsesOf c.in_ok-values.values) same
           c.in_ok-values.ensures.uses,
