@@ -15,3 +15,4 @@ mod VisitLemmas
 mod ResumeLemmas
 mod RewriteLemmas
 mod NamingLemmas
+mod ExtentLemmas

@@ -4,6 +4,7 @@
 
 mod around;
 mod canonical_layer;
+mod extent;
 mod features;
 mod item;
 mod item_writing;
@@ -28,6 +29,7 @@ mod version;
 mod visiting;
 
 pub use canonical_layer::{CanonicalVisitor, visit_canonical};
+pub use extent::extent_in;
 pub use item::{Item, Layer};
 pub use item_writing::{PutError, item_len, put_item};
 pub use layer_rewriting::{RewriteVisitor, Rewritten, RewrittenLayer, rewrite_parts};

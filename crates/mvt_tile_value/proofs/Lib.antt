@@ -6,5 +6,6 @@ mod BeginningLemmas
 mod IdLemmas
 mod NoteLemmas
 mod LintLemmas
+mod LintingLemmas
 mod RingLemmas
 mod SurveyLemmas

@@ -7,6 +7,7 @@ pub mod Comparing
 pub mod Beginning
 pub mod Notes
 pub mod Lint
+pub mod Linting
 pub mod Survey
 pub mod FirstIds
 pub mod Rings

@@ -102,7 +102,7 @@ fn lint_geometry(
     Ok(())
 }
 
-fn unknown_finding(layer: usize, feature: usize, integers: &[u32]) -> Finding
+pub(crate) fn unknown_finding(layer: usize, feature: usize, integers: &[u32]) -> Finding
     ensures { result ≡ the_unknown_finding layer feature integers.now }
 {
     if integers.is_empty() {
@@ -132,7 +132,11 @@ fn lint_attributes(
     Ok(())
 }
 
-fn push_if(findings: &mut Vec<Finding>, test: bool, finding: Finding) -> Result<(), AllocError>
+pub(crate) fn push_if(
+    findings: &mut Vec<Finding>,
+    test: bool,
+    finding: Finding,
+) -> Result<(), AllocError>
     ensures { OnOk result (findings.new.items ≡ findings.old.items ++ note_if test finding) }
 {
     if test {
@@ -199,7 +203,7 @@ fn far_of_line(extent: u32, points: &[Point]) -> Option<Point>
     None
 }
 
-fn is_far_point(extent: u32, point: Point) -> bool
+pub(crate) fn is_far_point(extent: u32, point: Point) -> bool
     ensures { result ≡ the_is_far_point extent point }
 {
     is_far(extent, point.x) || is_far(extent, point.y)
@@ -226,7 +230,7 @@ fn least_beyond(extent: u32, coordinate: i32) -> u64
     }
 }
 
-fn is_large_id(id: Option<u64>) -> bool
+pub(crate) fn is_large_id(id: Option<u64>) -> bool
     ensures { result ≡ the_is_large_id id }
 {
     match id {
@@ -246,7 +250,7 @@ fn is_large_value(value: &Value) -> bool
 }
 
 /// Whether a number of JavaScript can't tell an integer from its neighbours.
-fn is_large(number: u64) -> bool
+pub(crate) fn is_large(number: u64) -> bool
     ensures { result ≡ the_is_large number }
 {
     number > 9_007_199_254_740_991
