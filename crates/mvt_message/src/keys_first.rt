@@ -20,6 +20,7 @@ pub(crate) fn begins_with_key(body: &[u8], at: usize) -> bool {
 
 /// A layer whose keys begin at an offset, behind this head, with its values and its features behind
 /// them. No feature is looked at but the first.
+#[inline(never)]
 pub(crate) fn keys_first<'a>(
     alloc: Global,
     body: &'a [u8],

@@ -16,8 +16,8 @@ ghost use Rattle.mvt_message.specs.Resuming.{IsKnown, IsPartOf, IsSeen, IsSeenWi
 
 use crate::around::{Around, around_from, may_be_whole, whole_of};
 use crate::canonical_layer::CanonicalVisitor;
-use crate::layer_rewriting::RewrittenLayer;
 use crate::keys_first::{begins_with_key, keys_first};
+use crate::layer_rewriting::RewrittenLayer;
 use crate::looking::{Counts, counts_from, may_be_put_in_order, may_be_texts};
 use crate::numbers::layer;
 use crate::resuming::{OrderedLayer, written_layer};
@@ -104,6 +104,7 @@ pub(crate) fn bounds_of(frame: &Frame<'_>) -> (usize, usize)
 }
 
 /// What stands in front of the features, keys and values of a layer, and the offset after it.
+#[inline(always)]
 fn head_of(body: &[u8]) -> Result<(Around<'_>, usize), NotCanonical>
     ensures head { IfOk result (λ f. IsHead body.now f.0 f.1) }
     ensures within { IfOk result (λ f. f.1 ≤ length body.now) }
@@ -122,6 +123,7 @@ fn head_of(body: &[u8]) -> Result<(Around<'_>, usize), NotCanonical>
 
 /// The frame of a layer whose version, name and extent stand in front of the others or behind them,
 /// in any order.
+#[inline(always)]
 fn frame_of<'a>(
     alloc: Global,
     body: &'a [u8],
@@ -244,6 +246,7 @@ pub(crate) fn seen_of<'a, V: CanonicalVisitor>(
 
 /// The front of a layer whose features begin at an offset. It costs little where the fields stand
 /// in another order.
+#[inline(always)]
 pub(crate) fn front_of(
     alloc: Global,
     body: &[u8],
@@ -261,6 +264,7 @@ pub(crate) fn front_of(
 }
 
 /// The front of a layer whose keys begin at an offset. There is room for so many at first.
+#[inline(always)]
 pub(crate) fn front_from<'a>(
     alloc: Global,
     body: &'a [u8],

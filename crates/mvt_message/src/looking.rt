@@ -73,6 +73,18 @@ pub(crate) fn counts_in_front(body: &[u8], keys_at: usize) -> Option<Counts>
     }
 }
 
+/// Whether the fields of the feature at an offset may stand in the canonical order already, so that
+/// tags or spellings are what isn't canonical. One of a type and integers alone may be meant to be
+/// copied.
+pub(crate) fn stands_in_order(body: &[u8], at: usize) -> bool
+    requires { at ≤ length body.now }
+{
+    match short_bytes_at(body, at, layer::FEATURES) {
+        Some((feature, _)) => feature.first() != Some(&TYPE_TAG) && may_be_in_order(feature),
+        None => true,
+    }
+}
+
 /// Whether a feature begins with tags, or is a type and integers alone, after an id if it has one.
 fn may_be_in_order(payload: &[u8]) -> bool
     ensures typed { (kind : ℕ) (rest : List ℕ) → payload.now ≡ 24 ∷ (kind ∷ rest)

@@ -7,14 +7,16 @@ ghost use Rattle.mvt_message.specs.Resuming.{AreOrderedFrom, IsOrderedUpTo};
 
 use crate::layer_copying::Part;
 use crate::layer_writer::LayerWriter;
+use crate::looking::stands_in_order;
 use crate::numbers::layer;
 use mvt_attrs::LayerKeys;
 use mvt_feature::{NotCanonical, Scratch, order_feature};
 use mvt_wire::{Payload, put_field, short_bytes_at};
 use std::alloc::Global;
 
-/// Puts features in order, from those on that a writer has, up to the first that can't be. Answers
-/// the offset after them, and how many keys and values they use.
+/// Puts features in order, from those on that a writer has, up to the first that can't be; none
+/// where it is no other order that the first of them stands in. Answers the offset after them, and
+/// how many keys and values they use.
 pub(crate) fn order_from(
     alloc: Global,
     body: &[u8],
@@ -28,6 +30,9 @@ pub(crate) fn order_from(
         (λ f. IsOrderedUpTo body.now part.now f.0 f.1 writer.new.features.items) }
     ensures within { IfOk result (λ f. f.0 ≤ length body.now) }
 {
+    if stands_in_order(body, part.reached.at) {
+        return Ok((part.reached.at, part.reached.used));
+    }
     let values = part.front.values.len();
     let mut keys = LayerKeys::new(alloc, &part.keys);
     let mut scratch = Scratch::new(alloc);

@@ -36,6 +36,7 @@ pub(crate) struct OrderedLayer<'a> {
 /// # Errors
 ///
 /// When memory runs out, or where another isn't a feature; which rule it breaks isn't told.
+#[inline(never)]
 pub(crate) fn written_layer<'a>(
     alloc: Global,
     body: &'a [u8],
@@ -100,6 +101,7 @@ fn whole_layer<'a>(
 }
 
 /// A layer of which a writer has the features up to an offset, with the others made anew.
+#[inline(always)]
 fn finished_layer<'a>(
     alloc: Global,
     body: &[u8],
@@ -165,6 +167,7 @@ fn listed_writer(alloc: Global, body: &[u8], part: &Part<'_>) -> Result<LayerWri
 
 /// A writer that has these features, which were put in order, and the keys and the values of their
 /// layer, of which they use so many.
+#[inline(always)]
 fn with_entries(
     alloc: Global,
     body: &[u8],
@@ -193,6 +196,7 @@ fn with_entries(
 }
 
 /// A writer that has the features alone that are canonical.
+#[inline(always)]
 fn copied_features(alloc: Global, body: &[u8], part: &Part<'_>) -> Result<LayerWriter, NotCanonical>
     requires small { length body.now ≤ LIMIT }
     requires part { IsPartOf body.now part.now }
