@@ -3,6 +3,8 @@ ghost use Rattle.std.specs.Prelude.{◌≡◌, ◌+◌, IfOk, IfErr, IfSome, OnO
 ghost use Rattle.mvt_io.specs.States.{NoneFailed};
 ghost use Rattle.mvt_io.specs.Transfers.{Reads};
 ghost use Rattle.mvt_tile.specs.Reading.{StopsEarly};
+ghost use Rattle.mvt_tile_value.specs.declared.tile.Tile.{Tile};
+ghost use Rattle.mvt_tile_value.specs.Lint.{findings_of};
 ghost use Rattle.mvt_tasks.specs.Failures.{FailsReading};
 ghost use Rattle.mvt_tasks.specs.Output.{IsPrinted, HasOutput, lint_reply};
 
@@ -11,7 +13,7 @@ use crate::refusal::refusal;
 use crate::reply::Reply;
 use mvt_base::{Items, LIMIT};
 use mvt_io::Source;
-use mvt_tile::{Tile, lint, read_tile};
+use mvt_tile::Finding;
 use mvt_view::lint_text;
 use std::alloc::Global;
 
@@ -29,8 +31,8 @@ pub fn lint_tile<R: Source>(alloc: Global, reader: &mut R) -> Result<Reply, Fail
     ensures stops { StopsEarly LIMIT (R.state reader.new).given (R.state reader.old).left
         (R.state reader.new).left }
 {
-    match read_tile(alloc, reader) {
-        Ok(tile) => linted(alloc, &tile),
+    match mvt_tile::lint_tile(alloc, reader) {
+        Ok(findings) => linted(alloc, &findings),
         Err(error) => Ok(Reply {
             output: None,
             error_line: Some(refusal(alloc, error)?),
@@ -39,12 +41,13 @@ pub fn lint_tile<R: Source>(alloc: Global, reader: &mut R) -> Result<Reply, Fail
     }
 }
 
-fn linted(alloc: Global, tile: &Tile) -> Result<Reply, Failure>
-    ensures reply { IfOk result (λ reply. reply ≡ lint_reply tile.now) }
+fn linted(alloc: Global, findings: &[Finding]) -> Result<Reply, Failure>
+    ensures reply { (tile : Tile) → findings.now ≡ findings_of tile
+        → IfOk result (λ reply. reply ≡ lint_reply tile) }
+    ensures output { IfOk result HasOutput }
     ensures failed { IfErr result (λ failure. failure ≡ Failure.Memory) }
 {
-    let findings = lint(alloc, tile)?;
-    let text = lint_text(alloc, findings.as_slice())?;
+    let text = lint_text(alloc, findings)?;
     Ok(Reply {
         output: Some(Items::new(text.into_bytes())),
         error_line: None,
