@@ -1,7 +1,6 @@
 -- Features whose fields stand in any order.
-use Rattle.std.proofs.Common.{◌≡◌, ◌≢◌, ℕ, ◌==◌, ◌^◌, ◌<◌, ◌≤◌, Bool, true, false, List, [], ◌∷◌, ◌++◌, length, map, drop, Bor, Some, None, refl, sym, ap, ap₂, subst, ◌∙◌, arith, append_assoc, append-nil, lit<, lit≤, if◌then◌else◌}
+use Rattle.std.proofs.Common.{◌≡◌, ◌≢◌, ℕ, ◌==◌, ◌^◌, ◌<◌, ◌≤◌, Bool, true, false, List, [], ◌∷◌, ◌++◌, length, map, drop, Bor, Some, None, refl, sym, ap, ap₂, subst, ◌∙◌, append_assoc, append-nil, lit<, lit≤, if◌then◌else◌}
 use Rattle.std.specs.Prelude.{IfSome}
-use Rattle.std.specs.List.{AllByRecursion}
 use Rattle.std.proofs.lemmas.Bool.{eqb-true}
 use Rattle.std.proofs.Math.ListN.{drop_of_length-le}
 use Rattle.mvt_base.proofs.ListLemmas.{all_joined}
@@ -16,7 +15,7 @@ use Rattle.mvt_wire.proofs.WireLaws.{spelled_parts, spelled_whole_whole}
 use Rattle.mvt_feature.specs.declared.canonical_feature.Parts.{Parts}
 use Rattle.mvt_feature.specs.declared.feature.Feature.{Feature}
 use Rattle.mvt_feature.specs.declared.numbers.feature.TheConstants.{ID, TAGS, TYPE, GEOMETRY}
-use Rattle.mvt_feature.specs.Canonical.{plain, id_fields, type_fields, feature_fields, type_number}
+use Rattle.mvt_feature.specs.Canonical.{plain, id_fields, type_fields, type_number}
 use Rattle.mvt_feature.specs.Copying.{packed_tags, parts_fields}
 use Rattle.mvt_feature.specs.Features.{IsFeatureOf}
 use Rattle.mvt_feature.specs.Ordering.{AreMet, IsInAnyOrder, IsOfParts, IsOrdered, met_fields, met_integers, met_type}

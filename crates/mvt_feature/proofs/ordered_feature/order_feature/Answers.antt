@@ -1,4 +1,3 @@
-use Rattle.std.proofs.Common.{◌∙◌}
 use Rattle.mvt_feature.proofs.OrderingLemmas.{ordered}
 use Rattle.mvt_feature.proofs.ordered_feature.order_feature.Goals as goal
 
