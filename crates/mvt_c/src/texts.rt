@@ -8,7 +8,7 @@ ghost use Rattle.mvt_c.specs.Texts.{IsShown, report_of};
 use crate::fault::Fault;
 use crate::lent::Bytes;
 use crate::refusal::{Refusal, hand_out};
-use mvt_tile::{decode, lint, survey_tile};
+use mvt_tile::{decode, lint_bytes, survey_tile};
 use mvt_view::{json_text, lint_text, survey_text, svg_text};
 use std::alloc::Global;
 
@@ -69,11 +69,11 @@ pub extern "C" fn mvt_lint(alloc: Global, bytes: &[u8], out: &mut Bytes, fault: 
     hand_out(findings(alloc, bytes), out, fault)
 }
 
+/// Reads one feature at a time.
 fn findings(alloc: Global, bytes: &[u8]) -> Result<Vec<u8>, Refusal>
     ensures done { IfOk result (λ made. IsTextOf lint_lines bytes.now made.items) }
     ensures refused { IfErr result (NotShown bytes.now) }
 {
-    let tile = decode(alloc, bytes)?;
-    let found = lint(alloc, &tile)?;
+    let found = lint_bytes(alloc, bytes)?;
     Ok(lint_text(alloc, found.as_slice())?.into_bytes())
 }
