@@ -21,7 +21,7 @@ import time
 from pathlib import Path
 
 import psutil
-from mvt._mvt import looked_at
+from mvt._mvt import answer, looked_at
 from mvt.audit import engine
 from mvt.audit.judging import judged_part
 from mvt.audit.results import Block, Results
@@ -140,7 +140,7 @@ class Ready:
         return None
 
 
-def ready_part(store, *_):
+def ready_part(store, _):
     return Path(store.path).read_bytes()
 
 
@@ -201,8 +201,8 @@ def alone(tiles, name):
         judged, needed, linted, added = [], [], [], []
         for number in range(TRIED):
             judged.append(spent_by(lambda: judged_part(store, part)))
-            needed.append(spent_by(lambda: [looked_at(unpacked(content), False) for content in contents]))
-            linted.append(spent_by(lambda: [looked_at(unpacked(content), True) for content in contents]))
+            needed.append(spent_by(lambda: [answer("report", unpacked(content)) for content in contents]))
+            linted.append(spent_by(lambda: [looked_at(unpacked(content)) for content in contents]))
             added.append(spent_by(lambda: results.add([Block(store.path, number, block)])))  # noqa: B023
         results.close()
     return (f"{name}: a worker {1e6 * min(judged) / JUDGED:.1f} µs a tile, of which unpacking and judging take"

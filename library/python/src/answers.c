@@ -83,14 +83,14 @@ static PyObject *answer(PyObject *module, PyObject *words) {
     return told;
 }
 
-/* The report of a tile and its findings, which aren't looked for where the flag is 0. */
-static uint32_t look(PyObject *tile, int lints, mvt_bytes *report, mvt_bytes *lint, mvt_fault *fault) {
+/* The report of a tile and its findings. */
+static uint32_t look(PyObject *tile, mvt_bytes *report, mvt_bytes *lint, mvt_fault *fault) {
     size_t len;
     const uint8_t *bytes = content_of(tile, &len);
     uint32_t status;
     Py_BEGIN_ALLOW_THREADS
     status = mvt_report(bytes, len, report, fault);
-    if (status == MVT_OK && lints) status = mvt_lint(bytes, len, lint, fault);
+    if (status == MVT_OK) status = mvt_lint(bytes, len, lint, fault);
     Py_END_ALLOW_THREADS
     return status;
 }
@@ -106,16 +106,13 @@ static PyObject *none(void) {
     return Py_None;
 }
 
-static PyObject *looked_at(PyObject *module, PyObject *words) {
+static PyObject *looked_at(PyObject *module, PyObject *given) {
     (void)module;
-    PyObject *given, *told;
-    int lints;
-    if (!PyArg_ParseTuple(words, "Op:looked_at", &given, &lints)) return NULL;
-    PyObject *tile = bytes_of(given);
+    PyObject *told, *tile = bytes_of(given);
     if (tile == NULL) return NULL;
     mvt_bytes report = {NULL, 0}, lint = {NULL, 0};
     mvt_fault fault = {0};
-    const uint32_t status = look(tile, lints, &report, &lint, &fault);
+    const uint32_t status = look(tile, &report, &lint, &fault);
     if (status != MVT_OK && status != MVT_REFUSED) {
         told = PyErr_NoMemory();
     } else if (status == MVT_OK && is_line(report) && lint.len == 0) {
@@ -198,10 +195,10 @@ PyMethodDef ANSWERS_CALLS[] = {
     {"answer", answer, METH_VARARGS,
      "answer($module, call, tile, most=18446744073709551615, /)\n--\n\n"
      "The status of a call (judge, report, lint, rewrite, json, svg or rows) and the fault, or what was made."},
-    {"looked_at", looked_at, METH_VARARGS,
-     "looked_at($module, tile, lints, /)\n--\n\n"
-     "The fault or None, the report, and what `mvt lint` prints where that is asked for; or nothing but None, where there is\n"
-     "no fault, no note and no finding. Raises MemoryError."},
+    {"looked_at", looked_at, METH_O,
+     "looked_at($module, tile, /)\n--\n\n"
+     "The fault or None, the report, and what `mvt lint` prints; or nothing but None, where there is no fault, no note and no\n"
+     "finding. Raises MemoryError."},
     {"answer_extract", answer_extract, METH_VARARGS,
      "answer_extract($module, tile, names, /)\n--\n\nThe same, of the layers that bytes name."},
     {"located", located, METH_VARARGS,

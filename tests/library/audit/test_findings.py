@@ -126,24 +126,6 @@ class Stores(Case):
         self.assertIn("with findings, by zoom: - 3; such as LargeNumber in large-number.mvt, LargeId in large-id.mvt\n", out)
         self.assertIn("No zoom: 2 tiles.", (self.into / "report.html").read_text())
 
-    def test_large_tiles_are_told(self):
-        make_tree(self.room / "tree", at_places([tile([b""]) + field(14, bytes(findings.MOST)), EVIDENCE["large-id"]]))
-        status, out, _ = audit(self.room / "tree", "--into", self.into)
-        self.assertEqual(status, 0)
-        self.assertIn("1 with findings, which break no rule: LargeId 1; 1 not looked at\n", out)
-        self.assertIn("In 1 good tile nothing was looked for", (self.into / "report.html").read_text())
-
-    def test_nothing_is_looked_for_where_nobody_asks(self):
-        broken, flat = example_tiles()["20-ZeroSegment"], layer("c", [])
-        make_tree(self.room / "tree", at_places([EVIDENCE["large-id"], EVIDENCE["large-id"] + flat, broken, b""]))
-        status, out, _ = audit(self.room / "tree", "--no-findings", "--into", self.into)
-        self.assertEqual(status, 1)
-        wanted = [("accepted", "", None, ""), ("accepted", "NoFeatures layer 2", None, ""), ("refused", "", None, ""), ("empty", "NoLayers", 0, "")]
-        self.assertEqual(rows(self.into, "select verdict, notes, findings, lint from tiles order by x"), wanted)
-        self.assertEqual(rows(self.into, "select has_findings, tiles from counts where verdict = 'accepted'"), [(None, 2)])
-        self.assertRegex(out, "(?m)^0 with findings: 2 not looked at$")
-        self.assertIn("In 2 good tiles nothing was looked for", (self.into / "report.html").read_text())
-
     def test_older_results_are_told(self):
         make_tree(self.room / "tree", at_places([b""]))
         audit(self.room / "tree", "--into", self.into)
@@ -171,26 +153,22 @@ class Tiles(unittest.TestCase):
         row = self.row(layer("a", [b""]) + layer("b", []))
         self.assertEqual(row[4:], Row(*[None] * 4, "accepted", row.bytes, notes="NoFeatures layer 1", findings=1, lint="NoGeometry layer 0 feature 0")[4:])
 
-    def test_large_tiles_are_not_looked_at(self):
-        small = tile([b""])
-        for more, wanted in ((0, (1, "NoGeometry layer 0 feature 0")), (1, (None, "not looked for: more than 4,000,000 bytes"))):
-            # an unknown field, whose head is 5 bytes
-            content = small + field(14, bytes(findings.MOST + more - len(small) - 5))
-            self.assertEqual(len(content), findings.MOST + more)
-            row = self.row(gzip.compress(content))
-            self.assertEqual((row.verdict, row.notes, row.findings, row.lint), ("accepted", "", *wanted))
+    def test_large_tiles_are_looked_at(self):
+        # an unknown field makes it large
+        row = self.row(gzip.compress(tile([b""]) + field(14, bytes(20_000_000))))
+        self.assertEqual((row.verdict, row.notes, row.findings, row.lint), ("accepted", "", 1, "NoGeometry layer 0 feature 0"))
 
     def test_the_dearest_tile_takes_bounded_memory(self):
-        # each feature is two bytes
-        body = numeral(15, 2) + field(1, b"a") + b"\x12\x00" * (findings.MOST // 2 - 10)
+        # each feature is two bytes, and has a finding
+        features = 2_000_000
         before = resource.getrusage(resource.RUSAGE_SELF).ru_maxrss
-        row = self.row(field(3, body))
+        row = self.row(field(3, numeral(15, 2) + field(1, b"a") + b"\x12\x00" * features))
         grown = (resource.getrusage(resource.RUSAGE_SELF).ru_maxrss - before) * 1024
-        self.assertEqual((row.findings, row.lint), (findings.MOST // 2 - 10, "NoGeometry layer 0 feature 0"))
-        self.assertLess(grown, 150 * findings.MOST)
+        self.assertEqual((row.findings, row.lint), (features, "NoGeometry layer 0 feature 0"))
+        self.assertLess(grown, 300 * features)
 
     def test_out_of_memory(self):
-        def look(tile, lints):
+        def look(tile):
             raise MemoryError
 
         judge = Judge()

@@ -80,7 +80,7 @@ class Archives(Case):
         store, _ = self.opened(archives.archive(tiles))
         asked = []
         judge = judging.Judge()
-        judge._look = lambda tile, lints: asked.append(tile)
+        judge._look = lambda tile: asked.append(tile)
         said = [judge(content) for _, content in self.found(store, 10_000)]
         self.assertEqual((len(said), len(asked)), (len(tiles), 1))
 

@@ -85,10 +85,8 @@ def _cluster(dask: Any, count: int) -> Any:
         signal.signal(signal.SIGINT, held)
 
 
-def run(
-    client: Any, results: Results, stores: Sequence[Store], done: Dict[str, Done], told: Told, lints: bool = True
-) -> List[Lost]:
-    """Judges what isn't done yet, and looks for findings or doesn't. Answers the parts that no worker could finish."""
+def run(client: Any, results: Results, stores: Sequence[Store], done: Dict[str, Done], told: Told) -> List[Lost]:
+    """Judges what isn't done yet. Answers the parts that no worker could finish."""
     _await_worker(client)
     waiting = importlib.import_module("distributed").as_completed(with_results=True, raise_errors=False)
     handed: Dict[str, Tuple[str, int]] = {}
@@ -114,7 +112,7 @@ def run(
     for store, part, tiles in parts(stores, done, size):
         while waiting.count() >= most[store.path]:
             take(waiting.next_batch())
-        future = client.submit(judged_part, store, tiles, lints, pure=False)
+        future = client.submit(judged_part, store, tiles, pure=False)
         handed[future.key] = store.path, part
         waiting.add(future)
     for finished in waiting.batches():

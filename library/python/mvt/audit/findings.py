@@ -7,10 +7,6 @@ from typing import Any, Dict, List, NamedTuple, Optional, Tuple
 
 from .stores import Address
 
-# In larger tiles nothing is looked for: features are made as values for it, of a hundred times a tile's bytes at worst.
-MOST = 4_000_000
-TOO_LARGE = f"not looked for: more than {MOST:,} bytes"
-
 # A block counts the tiles that have a kind, and has one of them as an example; the results have the same by store.
 BLOCK = """
 create table finding_counts (z integer, finding text, tiles integer);

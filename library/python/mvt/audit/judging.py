@@ -96,11 +96,9 @@ _EMPTY = Said(EMPTY, 0, notes="NoLayers", findings=0)
 
 
 class Judge:
-    """Says what it says of one content after the other, and keeps what it said of small ones. Findings are looked for where
-    that is asked for."""
+    """Says what it says of one content after the other, and keeps what it said of small ones."""
 
-    def __init__(self, lints: bool = True) -> None:
-        self._lints = lints
+    def __init__(self) -> None:
         self._look = looked_at
         self._kept: Dict[bytes, Said] = {}
         self._last: Tuple[Content, Said] = b"", _EMPTY
@@ -140,21 +138,20 @@ class Judge:
             return Said(UNREAD, len(tile), notes="out of memory")
 
     def _of_tile(self, tile: bytes, is_packed: bool) -> Said:
-        lints = self._lints and len(tile) <= findings.MOST
-        told = self._look(tile, lints)
-        if told is None and lints == self._lints:
-            return _accepted(len(tile), lints)
-        fault, report, lint = told or (None, b"", b"")
+        told = self._look(tile)
+        if told is None:
+            return _accepted(len(tile))
+        fault, report, lint = told
         if fault is not None:
             return Said(REFUSED, len(tile), *_columns(tile, _fault(tile, fault), is_packed))
-        found, first = findings.summed(lint) if lints else (None, findings.TOO_LARGE if self._lints else "")
+        found, first = findings.summed(lint)
         return Said(ACCEPTED, len(tile), notes=_notes(report), findings=found, lint=first)
 
 
 @lru_cache(maxsize=5000)
-def _accepted(size: int, lints: bool) -> Said:
+def _accepted(size: int) -> Said:
     """What is said of most tiles."""
-    return Said(ACCEPTED, size, findings=0 if lints else None)
+    return Said(ACCEPTED, size, findings=0)
 
 
 def judged(address: Address, content: Content) -> Row:
@@ -162,11 +159,11 @@ def judged(address: Address, content: Content) -> Row:
     return Row._make((*address, *Judge()(content)))
 
 
-def judged_part(store: Store, part: Any, lints: bool = True) -> bytes:
+def judged_part(store: Store, part: Any) -> bytes:
     """The rows of a range and what is counted of them, as the bytes of an SQLite file, which the results take in at once."""
-    judge = Judge(lints)
+    judge = Judge()
     with closing(sqlite3.connect(":memory:", isolation_level=None)) as database:
-        block = _Block(database, store.path, lints)
+        block = _Block(database, store.path)
         plain, others = block.plain, block.others
         for address, content in store.tiles(part):
             if content is None:
@@ -193,7 +190,7 @@ _NOTED = itemgetter(*(Row._fields.index(name) for name in ("z", "verdict", "note
 class _Block:
     """What is said of the tiles of a part, in a database in memory."""
 
-    def __init__(self, database: sqlite3.Connection, path: str, lints: bool) -> None:
+    def __init__(self, database: sqlite3.Connection, path: str) -> None:
         self.absent = self._tiles = 0
         # Most tiles are accepted, and nothing else is said of them: these have an address and their bytes.
         self.plain: List[Tuple[Any, ...]] = []
@@ -202,15 +199,13 @@ class _Block:
         self._kinds: "Counter[Tuple[Any, ...]]" = Counter()
         self._notes: "Counter[Tuple[Any, ...]]" = Counter()
         self._found = findings.Found()
-        # How many findings a tile has of which nothing else is said.
-        self._none = 0 if lints else None
         self._cells: "Counter[Tuple[int, int, int]]" = Counter()
         self._broken: "Counter[Tuple[int, int, int]]" = Counter()
         # A text within a command isn't bound for each row.
         text = path.replace("'", "''")
         self._insert = f"insert into tiles values ('{text}'{', ?' * len(Row._fields)})"
         self._insert_plain = f"""insert into tiles (store, z, x, y, name, bytes, verdict, notes, findings, lint)
- values ('{text}', ?, ?, ?, ?, ?, '{ACCEPTED}', '', {'0' if lints else 'null'}, '')"""
+ values ('{text}', ?, ?, ?, ?, ?, '{ACCEPTED}', '', 0, '')"""
         database.executescript(f"{_BLOCK} begin;")
 
     def write(self) -> None:
@@ -219,7 +214,7 @@ class _Block:
         self._database.executemany(self._insert_plain, plain)
         self._database.executemany(self._insert, others)
         for z, tiles in Counter(map(itemgetter(0), plain)).items():
-            self._kinds[z, ACCEPTED, None, None, None, self._none] += tiles
+            self._kinds[z, ACCEPTED, None, None, None, 0] += tiles
         self._kinds.update((*_KIND(row), row[_FINDINGS] and 1) for row in others)
         for z, verdict, said in map(_NOTED, others):
             if said and verdict in (ACCEPTED, EMPTY):

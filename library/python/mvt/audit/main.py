@@ -38,9 +38,6 @@ def _parser() -> argparse.ArgumentParser:
     where.add_argument("--scheduler", metavar="ADDRESS", help="a scheduler of Dask, such as tcp://alpha:8786")
     words.add_argument("--part", type=serverwords.positive, metavar="N", help="tiles in a part (a fiftieth; 100 to 50,000)")
     words.add_argument("--anew", action="store_true", help="forget the results in the folder, and begin again")
-    words.add_argument(
-        "--no-findings", action="store_true", help="don't look for what viewers stumble over in good tiles, which takes time"
-    )
     words.add_argument("--json", action="store_true", help="sum up as JSON")
     serverwords.add_to(words)
     return words
@@ -108,7 +105,7 @@ def _judge(given: argparse.Namespace, results: Results, stores: List[Store], sta
         progress = Progress(total, before, int(broken))
         try:
             results.drop_index()
-            lost = engine.run(client, results, stores, done, progress.add, not given.no_findings)
+            lost = engine.run(client, results, stores, done, progress.add)
             results.make_index()
         finally:
             progress.close()

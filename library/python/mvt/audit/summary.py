@@ -32,7 +32,6 @@ def told(results: Results, timed: Timed, lost: Sequence[Lost]) -> Dict[str, Any]
     ).fetchall()
     stores = results.database.execute("select path, kind, tiles from stores order by path").fetchall()
     stumbled = _listed(results, ("z",), "has_findings")
-    unlinted = results.counted("verdict", f"verdict = '{ACCEPTED}' and has_findings is null")
     return {
         "stores": [{"path": path, "kind": kind, "tiles": tiles} for path, kind, tiles in stores],
         "tiles": sum(verdicts.values()),
@@ -44,7 +43,6 @@ def told(results: Results, timed: Timed, lost: Sequence[Lost]) -> Dict[str, Any]
         "with_findings": sum(each["tiles"] for each in stumbled),
         "findings": [kind.told() for kind in findings.kinds(results.database)],
         "finding_zooms": stumbled,
-        "unlinted": sum(tiles for _, tiles in unlinted),
         "unfinished": [part._asdict() for part in lost],
         "seconds": {"start": round(timed.start, 2), "work": round(timed.work, 2), "client": round(timed.client, 2)},
         "tiles_this_time": timed.tiles,
@@ -79,16 +77,11 @@ def lines(found: Dict[str, Any], files: Sequence[str]) -> List[str]:
     more = len(found["stores"]) - 3
     layers = [(each["layer_name"], each["tiles"]) for each in found["layers"]]
     stumbled = _few([(each["finding"], each["tiles"]) for each in found["findings"]])
-    unlinted = f"{found['unlinted']:,} not looked at" if found["unlinted"] else ""
     rows = [
         (found["tiles"], "tiles", stores + (f" and {more} more" if more > 0 else "")),
         (verdicts[ACCEPTED], ACCEPTED, ""),
         (sum(found["notes"].values()), "notes", _few(list(found["notes"].items()))),
-        (
-            found["with_findings"],
-            f"with findings{', which break no rule' if stumbled else ''}",
-            "; ".join(filter(None, (stumbled, unlinted))),
-        ),
+        (found["with_findings"], f"with findings{', which break no rule' if stumbled else ''}", stumbled),
         (verdicts[EMPTY], EMPTY, ""),
         (verdicts[REFUSED], REFUSED, _few([(each["cause_name"], each["tiles"]) for each in found["causes"]])),
         (verdicts[NOT_UNPACKED], NOT_UNPACKED, ""),

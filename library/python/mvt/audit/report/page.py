@@ -64,14 +64,10 @@ def _head(found: Dict[str, Any]) -> str:
 
 
 def _head_of_findings(found: Dict[str, Any]) -> str:
-    said = ""
-    if found["findings"]:
-        tiles = counted(found["with_findings"], "good tile")
-        said = f'<p>Viewers may stumble over <a href="#findings">{tiles}</a>; no rule is broken there.</p>'
-    if found["unlinted"]:
-        tiles = counted(found["unlinted"], "good tile")
-        said += f'<p class="quiet">In {tiles} nothing was looked for that viewers stumble over.</p>'
-    return said
+    if not found["findings"]:
+        return ""
+    tiles = counted(found["with_findings"], "good tile")
+    return f'<p>Viewers may stumble over <a href="#findings">{tiles}</a>; no rule is broken there.</p>'
 
 
 def _counts(results: Results, found: Dict[str, Any]) -> str:
