@@ -2,6 +2,7 @@
 mod devices;
 mod faults;
 mod findings;
+mod linting;
 mod making;
 mod refused;
 mod refused_rows;

@@ -127,7 +127,12 @@ fn told_by_survey(alloc: Global, input: &[u8]) -> Result<(bool, Vec<Note>), Deco
 
 // The input with its byte at an index changed in one of three ways: by its lowest bit, by one, and
 // to the same number in a byte more.
-fn changed(alloc: Global, input: &[u8], at: usize, way: u8) -> Result<Vec<u8>, AllocError> {
+pub(crate) fn changed(
+    alloc: Global,
+    input: &[u8],
+    at: usize,
+    way: u8,
+) -> Result<Vec<u8>, AllocError> {
     let mut bytes = Vec::new(alloc);
     for (index, byte) in input.iter().enumerate() {
         if index != at {
