@@ -50,7 +50,9 @@ fn lints_bytes(rt: HostRuntime) {
 
 fn told_by_value(alloc: Global, input: &[u8]) -> Result<Vec<Finding>, DecodeError> {
     let tile = decode(alloc, input)?;
-    Ok(lint(alloc, &tile)?)
+    let found = lint(alloc, &tile);
+    drop(tile);
+    Ok(found?)
 }
 
 // The bytes, and a reader of them, have the findings of the tile or its fault.
