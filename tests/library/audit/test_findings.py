@@ -13,7 +13,7 @@ import mvt
 from common import EVIDENCE, FOUND, TOP, Case, at_places, audit, example_tiles, json, make_mbtiles, make_tree, packings, rows
 from evidence import layer, line, numeral, point, tile
 from feature import field
-from mvt.audit import findings, stores
+from mvt.audit import stores
 from mvt.audit.judging import Judge, Row, Said, judged, judged_part
 from mvt.audit.report import words
 from mvt.audit.results import Block, Results
