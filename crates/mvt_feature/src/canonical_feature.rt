@@ -208,6 +208,7 @@ fn take_numbers(bytes: &[u8], numbers: &mut Vec<u32>) -> Result<(), NotCanonical
 
 /// Whether no spelling of a number among these bytes is longer than need be: no byte of 0 ends one
 /// of several bytes.
+#[inline(never)]
 fn are_short(bytes: &[u8]) -> bool
     ensures { IsTrue result → (numbers : List ℕ) → ArePacked bytes.now numbers
         → bytes.now ≡ short_numbers numbers }
