@@ -26,7 +26,7 @@ def marked(start: int, end: int) -> str:
 _FINDINGS = {
     "ZeroExtent": (
         "a layer's extent is 0",
-        "Mapbox GL and QGIS draw no line and no polygon of the layer",
+        "Mapbox GL and QGIS draw no line and no polygon of the layer, QGIS no point either",
     ),
     "NoGeometry": (
         "a feature of unknown type has no integers",
