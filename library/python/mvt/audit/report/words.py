@@ -34,22 +34,21 @@ _FINDINGS = {
     ),
     "UnknownGeometry": (
         "a feature of unknown type has integers",
-        "Mapbox GL drops the whole tile where the integers draw nothing, and else draws a point by a circle layer; QGIS draws"
-        " nothing",
+        "Mapbox GL drops the whole tile, or draws the integers of a point as a circle; QGIS draws nothing",
     ),
     "FarPoint": (
-        "the first position of the feature that leaves 16 bits (-32768 to 32767) in 8192ths of the extent, rounded to the"
-        " nearest, halves away from 0; none in a layer whose extent is 0",
-        "Mapbox GL leaves the position out, so a line or a polygon is another one; where a point is left out, a line layer ends"
-        " the whole viewer",
+        "the first position of the feature that leaves 16 bits (-32768 to 32767) in 8192ths of the extent, rounded to"
+        " the nearest, halves away from 0; none in a layer whose extent is 0",
+        "Mapbox GL leaves the position out, so a line or a polygon has another shape; if a point is left out, a line"
+        " layer ends the whole viewer",
     ),
     "LargeId": (
         "an id is beyond 2^53 - 1",
-        "Mapbox GL and QGIS draw the feature; a number of JavaScript can't tell the id from its neighbours",
+        "the feature is drawn, but JavaScript can't tell the id from its neighbours",
     ),
     "LargeNumber": (
         "an int, a uint or a sint is beyond 2^53 - 1 to either side",
-        "Mapbox GL and QGIS draw the feature; a number of JavaScript can't tell it from its neighbours",
+        "the feature is drawn, but JavaScript can't tell the number from its neighbours",
     ),
 }
 
