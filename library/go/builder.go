@@ -21,41 +21,57 @@ import (
 //	bytes, err := builder.Finish()
 //
 // After a call that the builder doesn't expect, or when memory runs out, each further call does nothing, and Finish says
-// why. One goroutine at a time may use it.
+// why. One goroutine at a time may use it. A copy of a Builder that has begun builds the same tile.
 type Builder struct {
+	held *begun
+}
+
+// begun is what a builder and its copies share.
+type begun struct {
 	builder C.mvt_builder
 	err     error
 }
 
+func (b *begun) free() { C.mvt_builder_free(&b.builder) }
+
+// begin is what the builder has begun; a Builder that wasn't made by NewBuilder begins here.
+func (b *Builder) begin() *begun {
+	if b.held == nil {
+		b.held = &begun{}
+		runtime.SetFinalizer(b.held, (*begun).free)
+	}
+	return b.held
+}
+
 // NewBuilder is a builder of a tile without layers.
 func NewBuilder() *Builder {
-	held := &Builder{}
-	runtime.SetFinalizer(held, (*Builder).Close)
-	return held
+	made := &Builder{}
+	made.begin()
+	return made
 }
 
 // Close frees the builder and what it has.
 func (b *Builder) Close() error {
-	C.mvt_builder_free(&b.builder)
+	b.begin().free()
 	return nil
 }
 
 // Layer begins a layer, and ends the one before. The extent is how many units the tile is wide and high, mostly 4096.
 func (b *Builder) Layer(name string, extent uint32) *Builder {
-	C.mvt_builder_layer(&b.builder, lent(name), C.uint32_t(extent))
+	C.mvt_builder_layer(&b.begin().builder, lent(name), C.uint32_t(extent))
 	return b
 }
 
 // Foreign adds a layer of another version than 2, given by its bytes.
 func (b *Builder) Foreign(version uint32, bytes []byte) *Builder {
-	C.mvt_builder_foreign(&b.builder, C.uint32_t(version), C.mvt_bytes{start(bytes), C.size_t(len(bytes))})
+	C.mvt_builder_foreign(&b.begin().builder, C.uint32_t(version), C.mvt_bytes{start(bytes), C.size_t(len(bytes))})
 	return b
 }
 
 // Key is the index of a key in the layer. A new one is added. The error is ErrOutOfTurn if no layer has begun.
 func (b *Builder) Key(key string) (uint32, error) {
 	var index C.uint32_t
-	err := errorOf(C.mvt_builder_key(&b.builder, lent(key), &index), nil, nil)
+	err := errorOf(C.mvt_builder_key(&b.begin().builder, lent(key), &index), nil, nil)
 	return uint32(index), err
 }
 
@@ -66,19 +82,19 @@ func (b *Builder) Value(value any) (uint32, error) {
 		return 0, noKind(value)
 	}
 	var index C.uint32_t
-	err := errorOf(C.mvt_builder_value(&b.builder, given, &index), nil, nil)
+	err := errorOf(C.mvt_builder_value(&b.begin().builder, given, &index), nil, nil)
 	return uint32(index), err
 }
 
 // Feature begins a feature of the layer, and ends the one before.
 func (b *Builder) Feature(kind Kind) *Builder {
-	C.mvt_builder_feature(&b.builder, C.mvt_kind(kind))
+	C.mvt_builder_feature(&b.begin().builder, C.mvt_kind(kind))
 	return b
 }
 
 // ID gives the feature an id.
 func (b *Builder) ID(id uint64) *Builder {
-	C.mvt_builder_id(&b.builder, C.uint64_t(id))
+	C.mvt_builder_id(&b.begin().builder, C.uint64_t(id))
 	return b
 }
 
@@ -88,12 +104,12 @@ func (b *Builder) ID(id uint64) *Builder {
 func (b *Builder) Tag(key string, value any) *Builder {
 	given, ok := valueOf(value)
 	if !ok {
-		if b.err == nil {
-			b.err = noKind(value)
+		if held := b.begin(); held.err == nil {
+			held.err = noKind(value)
 		}
 		return b
 	}
-	C.mvt_builder_tag(&b.builder, lent(key), given)
+	C.mvt_builder_tag(&b.begin().builder, lent(key), given)
 	return b
 }
 
@@ -103,13 +119,13 @@ func noKind(value any) error {
 
 // TagAt adds an attribute by the indices that Key and Value gave.
 func (b *Builder) TagAt(key, value uint32) *Builder {
-	C.mvt_builder_tag_at(&b.builder, C.uint32_t(key), C.uint32_t(value))
+	C.mvt_builder_tag_at(&b.begin().builder, C.uint32_t(key), C.uint32_t(value))
 	return b
 }
 
 // Line begins a line of a feature of lines.
 func (b *Builder) Line() *Builder {
-	C.mvt_builder_line(&b.builder)
+	C.mvt_builder_line(&b.begin().builder)
 	return b
 }
 
@@ -119,13 +135,13 @@ func (b *Builder) Ring(exterior bool) *Builder {
 	if exterior {
 		number = 1
 	}
-	C.mvt_builder_ring(&b.builder, number)
+	C.mvt_builder_ring(&b.begin().builder, number)
 	return b
 }
 
 // Point adds a point to the line or ring that began last, or to a feature of points.
 func (b *Builder) Point(x, y int32) *Builder {
-	C.mvt_builder_point(&b.builder, C.int32_t(x), C.int32_t(y))
+	C.mvt_builder_point(&b.begin().builder, C.int32_t(x), C.int32_t(y))
 	return b
 }
 
@@ -133,7 +149,7 @@ func (b *Builder) Point(x, y int32) *Builder {
 // its first.
 func (b *Builder) Points(points ...Point) *Builder {
 	if len(points) > 0 {
-		C.mvt_builder_points(&b.builder, (*C.mvt_point)(unsafe.Pointer(&points[0])), C.size_t(len(points)))
+		C.mvt_builder_points(&b.begin().builder, (*C.mvt_point)(unsafe.Pointer(&points[0])), C.size_t(len(points)))
 	}
 	return b
 }
@@ -141,14 +157,14 @@ func (b *Builder) Points(points ...Point) *Builder {
 // Integers adds integers to a feature of unknown geometry.
 func (b *Builder) Integers(integers ...uint32) *Builder {
 	if len(integers) > 0 {
-		C.mvt_builder_integers(&b.builder, (*C.uint32_t)(&integers[0]), C.size_t(len(integers)))
+		C.mvt_builder_integers(&b.begin().builder, (*C.uint32_t)(&integers[0]), C.size_t(len(integers)))
 	}
 	return b
 }
 
 // Drop removes the feature that began last, for example if its geometry has become empty.
 func (b *Builder) Drop() *Builder {
-	C.mvt_builder_drop(&b.builder)
+	C.mvt_builder_drop(&b.begin().builder)
 	return b
 }
 
@@ -156,14 +172,15 @@ func (b *Builder) Drop() *Builder {
 // such as a line of one point or a ring that runs the wrong way round; ErrOutOfTurn if a call wasn't expected; ErrTooLarge
 // or ErrMemory.
 func (b *Builder) Finish() ([]byte, error) {
-	defer runtime.KeepAlive(b)
-	defer C.mvt_builder_free(&b.builder)
-	if err := b.err; err != nil {
-		b.err = nil
+	held := b.begin()
+	defer runtime.KeepAlive(held)
+	defer held.free()
+	if err := held.err; err != nil {
+		held.err = nil
 		return nil, err
 	}
 	var rows C.mvt_tile
-	if err := errorOf(C.mvt_builder_rows(&b.builder, &rows), nil, nil); err != nil {
+	if err := errorOf(C.mvt_builder_rows(&held.builder, &rows), nil, nil); err != nil {
 		return nil, err
 	}
 	return written(&rows)

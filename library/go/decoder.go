@@ -19,11 +19,26 @@ import (
 //	_, err = decoder.ReadFrom(response.Body)
 //	tile, err := decoder.Finish()
 //
-// One goroutine at a time may use it.
+// One goroutine at a time may use it. A copy of a Decoder reads the same tile.
 type Decoder struct {
+	held *feeding
+}
+
+// feeding is what a decoder and its copies share.
+type feeding struct {
 	decoder C.mvt_decoder
 	// The first bytes, which tell whether the refused bytes look like something else.
 	head []byte
+}
+
+func (f *feeding) free() { C.mvt_decoder_free(&f.decoder) }
+
+// fed is what the decoder has taken; one that wasn't made by NewDecoder is closed.
+func (d *Decoder) fed() *feeding {
+	if d.held == nil {
+		d.held = &feeding{}
+	}
+	return d.held
 }
 
 const (
@@ -31,6 +46,8 @@ const (
 	headLen = 64
 	// So many bytes are read at a time.
 	pieceLen = 65_536
+	// So many reads that give nothing, one after the other, are no reader.
+	mostEmpty = 100
 )
 
 var (
@@ -45,27 +62,28 @@ func NewDecoder() (*Decoder, error) {
 
 // NewDecoderWithin is the same, of a tile whose rows have at most so many bytes: else the error of a call is ErrMemory.
 func NewDecoderWithin(most uint64) (*Decoder, error) {
-	held := &Decoder{}
+	held := &feeding{}
 	if err := errorOf(C.mvt_decoder_new_within(&held.decoder, C.uint64_t(most)), nil, nil); err != nil {
 		return nil, err
 	}
-	runtime.SetFinalizer(held, (*Decoder).Close)
-	return held, nil
+	runtime.SetFinalizer(held, (*feeding).free)
+	return &Decoder{held}, nil
 }
 
 // Write takes a piece. A fault is reported as soon as no further byte can change it, as a *Refused that mostly has no name
 // of the layer and no id of the feature, since the bytes aren't kept. After an error each further call answers the same.
 func (d *Decoder) Write(piece []byte) (int, error) {
-	defer runtime.KeepAlive(d)
-	if room := headLen - len(d.head); room > 0 {
+	held := d.fed()
+	defer runtime.KeepAlive(held)
+	if room := headLen - len(held.head); room > 0 {
 		if room > len(piece) {
 			room = len(piece)
 		}
-		d.head = append(d.head, piece[:room]...)
+		held.head = append(held.head, piece[:room]...)
 	}
 	var fault C.mvt_fault
-	status := C.mvt_decoder_feed(&d.decoder, start(piece), C.size_t(len(piece)), &fault)
-	if err := errorOf(status, d.head, &fault); err != nil {
+	status := C.mvt_decoder_feed(&held.decoder, start(piece), C.size_t(len(piece)), &fault)
+	if err := errorOf(status, held.head, &fault); err != nil {
 		return 0, ofFront(err)
 	}
 	return len(piece), nil
@@ -80,10 +98,11 @@ func ofFront(err error) error {
 	return err
 }
 
-// ReadFrom takes all that a reader has, as Write does, up to its end or the first fault. It says how many bytes it read.
+// ReadFrom takes all that a reader has, as Write does, up to its end or the first fault. It says how many bytes it read. The
+// error is io.ErrNoProgress for a reader that gives nothing again and again, and no end.
 func (d *Decoder) ReadFrom(reader io.Reader) (int64, error) {
 	piece, all := make([]byte, pieceLen), int64(0)
-	for {
+	for empty := 0; empty < mostEmpty; empty++ {
 		count, ended := reader.Read(piece)
 		all += int64(count)
 		if _, err := d.Write(piece[:count]); err != nil {
@@ -95,21 +114,27 @@ func (d *Decoder) ReadFrom(reader io.Reader) (int64, error) {
 		if ended != nil {
 			return all, ended
 		}
+		if count > 0 {
+			empty = -1
+		}
 	}
+	return all, io.ErrNoProgress
 }
 
 // Finish gives the tile, after the last piece. The decoder is closed, whatever the answer.
 func (d *Decoder) Finish() (*Tile, error) {
-	defer runtime.KeepAlive(d)
+	held := d.fed()
+	defer runtime.KeepAlive(held)
 	var rows C.mvt_tile
 	var fault C.mvt_fault
-	tile, err := adopted(C.mvt_decoder_finish(&d.decoder, &rows, &fault), d.head, &rows, &fault)
+	tile, err := adopted(C.mvt_decoder_finish(&held.decoder, &rows, &fault), held.head, &rows, &fault)
 	return tile, ofFront(err)
 }
 
 // Close frees the decoder.
 func (d *Decoder) Close() error {
-	C.mvt_decoder_free(&d.decoder)
-	runtime.SetFinalizer(d, nil)
+	held := d.fed()
+	held.free()
+	runtime.SetFinalizer(held, nil)
 	return nil
 }

@@ -65,7 +65,7 @@ func (f Feature) Tags() []uint32 {
 }
 
 func (f Feature) tags() []uint32 {
-	rows := &f.layer.tile.rows
+	rows := f.layer.tile.rows()
 	return within(rowsOf((*uint32)(rows.tags), rows.tag_count), f.row.tags)
 }
 
@@ -101,8 +101,9 @@ type Part struct {
 func (f Feature) Parts() []Part {
 	tile := f.layer.tile
 	defer runtime.KeepAlive(tile)
-	points := rowsOf((*Point)(unsafe.Pointer(tile.rows.points)), tile.rows.point_count)
-	rows := within(rowsOf(tile.rows.parts, tile.rows.part_count), f.row.parts)
+	all := tile.rows()
+	points := rowsOf((*Point)(unsafe.Pointer(all.points)), all.point_count)
+	rows := within(rowsOf(all.parts, all.part_count), f.row.parts)
 	parts := make([]Part, 0, len(rows))
 	for _, row := range rows {
 		parts = append(parts, Part{row.exterior == 1, append([]Point(nil), within(points, row.points)...)})
@@ -114,6 +115,7 @@ func (f Feature) Parts() []Part {
 func (f Feature) Integers() []uint32 {
 	tile := f.layer.tile
 	defer runtime.KeepAlive(tile)
-	integers := rowsOf((*uint32)(tile.rows.integers), tile.rows.integer_count)
+	rows := tile.rows()
+	integers := rowsOf((*uint32)(rows.integers), rows.integer_count)
 	return append([]uint32(nil), within(integers, f.row.integers)...)
 }

@@ -28,7 +28,8 @@ func (l Layer) Bytes() []byte { return []byte(l.tile.text(l.row.bytes)) }
 // Features lists the features, in order.
 func (l Layer) Features() []Feature {
 	defer runtime.KeepAlive(l.tile)
-	rows := within(rowsOf(l.tile.rows.features, l.tile.rows.feature_count), l.row.features)
+	tile := l.tile.rows()
+	rows := within(rowsOf(tile.features, tile.feature_count), l.row.features)
 	features := make([]Feature, 0, len(rows))
 	for _, row := range rows {
 		features = append(features, Feature{l, row})
@@ -58,9 +59,11 @@ func (l Layer) Values() []any {
 }
 
 func (l Layer) keySpans() []C.mvt_span {
-	return within(rowsOf(l.tile.rows.keys, l.tile.rows.key_count), l.row.keys)
+	tile := l.tile.rows()
+	return within(rowsOf(tile.keys, tile.key_count), l.row.keys)
 }
 
 func (l Layer) valueRows() []C.mvt_value {
-	return within(rowsOf(l.tile.rows.values, l.tile.rows.value_count), l.row.values)
+	tile := l.tile.rows()
+	return within(rowsOf(tile.values, tile.value_count), l.row.values)
 }

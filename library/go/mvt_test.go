@@ -288,6 +288,64 @@ func TestAReaderThatFails(t *testing.T) {
 	same(t, "reading", []any{count, err}, []any{int64(1), iotest.ErrTimeout})
 }
 
+type empty struct{}
+
+func (empty) Read([]byte) (int, error) { return 0, nil }
+
+func TestAReaderThatGivesNothing(t *testing.T) {
+	decoder, err := mvt.NewDecoder()
+	defer must(t, err, decoder).Close()
+	count, err := decoder.ReadFrom(empty{})
+	same(t, "reading", []any{count, err}, []any{int64(0), io.ErrNoProgress})
+}
+
+// copiedTile is a copy of a tile that nothing else leads to.
+func copiedTile(t *testing.T, bytes []byte) mvt.Tile {
+	t.Helper()
+	read, err := mvt.Read(bytes)
+	return *must(t, err, read)
+}
+
+// A copy shares what it was copied from, which lasts as long as one of them, and is closed with it.
+func TestCopies(t *testing.T) {
+	bytes, err := mvt.NewBuilder().Layer("a", 4096).Finish()
+	must(t, err, bytes)
+	for round := 0; round < 20; round++ {
+		copied := copiedTile(t, bytes)
+		runtime.GC()
+		same(t, "name", copied.Layers()[0].Name(), "a")
+		again := copied
+		copied.Close()
+		again.Close()
+		same(t, "layers", len(again.Layers()), 0)
+	}
+	var none mvt.Tile
+	same(t, "layers", len(none.Layers()), 0)
+	none.Close()
+
+	builder := *mvt.NewBuilder()
+	runtime.GC()
+	copied := builder.Layer("a", 4096)
+	twin := *copied
+	made, err := twin.Finish()
+	same(t, "built", must(t, err, made), bytes)
+	copied.Close()
+	builder.Close()
+
+	decoder, err := mvt.NewDecoder()
+	feeding := *must(t, err, decoder)
+	feeding.Write(bytes[:2])
+	decoder.Write(bytes[2:])
+	tile, err := feeding.Finish()
+	same(t, "name", must(t, err, tile).Layers()[0].Name(), "a")
+	_, err = decoder.Finish()
+	same(t, "closed", err, mvt.ErrClosed)
+	decoder.Close()
+	var closed mvt.Decoder
+	_, err = closed.Finish()
+	same(t, "never made", err, mvt.ErrClosed)
+}
+
 // Tiles that nobody closes are given back by the collector, while others are looked at.
 func TestTilesThatAreNotClosed(t *testing.T) {
 	made, err := mvt.NewBuilder().Layer("a", 4096).Finish()

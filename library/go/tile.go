@@ -12,10 +12,25 @@ import (
 )
 
 // Tile is a tile that was read. Its layers, features and points are read from rows that it owns. They are given back by
-// Close, or when the collector finds that nothing leads to the tile any more. That may be late, since it doesn't count what
-// the rows take: who reads many tiles closes each.
+// Close, or when the collector finds that nothing leads to them any more. That may be late, since it doesn't count what
+// the rows take: who reads many tiles closes each. A copy of a Tile shares its rows, and is closed with it.
 type Tile struct {
+	held *tileRows
+}
+
+// tileRows are the rows that a tile and its copies share.
+type tileRows struct {
 	rows C.mvt_tile
+}
+
+func (r *tileRows) free() { C.mvt_tile_free(&r.rows) }
+
+// rows are those of the tile; a Tile that was never read has none.
+func (t *Tile) rows() *C.mvt_tile {
+	if t.held == nil {
+		return &C.mvt_tile{}
+	}
+	return &t.held.rows
 }
 
 // Read reads a tile.
@@ -47,22 +62,25 @@ func adopted(status C.mvt_status, tile []byte, rows *C.mvt_tile, fault *C.mvt_fa
 	if err := errorOf(status, tile, fault); err != nil {
 		return nil, err
 	}
-	held := &Tile{*rows}
-	runtime.SetFinalizer(held, (*Tile).Close)
-	return held, nil
+	held := &tileRows{*rows}
+	runtime.SetFinalizer(held, (*tileRows).free)
+	return &Tile{held}, nil
 }
 
-// Close frees the rows. The tile has no layers afterwards, and those that it handed out may not be asked any more.
+// Close frees the rows. The tile and its copies have no layers afterwards, and those that they handed out may not be asked
+// any more.
 func (t *Tile) Close() error {
-	C.mvt_tile_free(&t.rows)
-	runtime.SetFinalizer(t, nil)
+	if t.held != nil {
+		t.held.free()
+		runtime.SetFinalizer(t.held, nil)
+	}
 	return nil
 }
 
 // Write gives the canonical bytes of a tile that was read. The error may be ErrTooLarge.
 func (t *Tile) Write() ([]byte, error) {
 	defer runtime.KeepAlive(t)
-	return written(&t.rows)
+	return written(t.rows())
 }
 
 func written(rows *C.mvt_tile) ([]byte, error) {
@@ -78,8 +96,9 @@ func written(rows *C.mvt_tile) ([]byte, error) {
 // Layers lists the layers, in order, those of other versions among them.
 func (t *Tile) Layers() []Layer {
 	defer runtime.KeepAlive(t)
-	layers := make([]Layer, 0, int(t.rows.layer_count))
-	for _, row := range rowsOf(t.rows.layers, t.rows.layer_count) {
+	rows := t.rows()
+	layers := make([]Layer, 0, int(rows.layer_count))
+	for _, row := range rowsOf(rows.layers, rows.layer_count) {
 		layers = append(layers, Layer{t, row})
 	}
 	return layers
@@ -97,7 +116,8 @@ func (t *Tile) Layer(name string) (Layer, bool) {
 
 func (t *Tile) text(span C.mvt_span) string {
 	defer runtime.KeepAlive(t)
-	return string(within(rowsOf((*byte)(t.rows.texts), t.rows.text_len), span))
+	rows := t.rows()
+	return string(within(rowsOf((*byte)(rows.texts), rows.text_len), span))
 }
 
 func (t *Tile) value(row C.mvt_value) any {

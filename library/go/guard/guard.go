@@ -22,10 +22,10 @@ import (
 // limit is how many bytes a tile has at most.
 const limit = 67_108_864
 
-// New is a handler that hands requests on to a server, and judges each answer of status 200: a good tile is passed on as it
-// came, plain or packed by gzip; for any other answer the status is 502, and the text is the line that the program mvt prints
-// and the fault in plain words. Answers of another status, and those to HEAD, are passed on. So give it the paths of tiles
-// alone.
+// New is a handler that hands requests on to a server, and judges each answer of a status from 200 to 299 but 204, which has
+// no content: a good tile is passed on as it came, plain or packed by gzip; for any other answer the status is 502, and the
+// text is the line that the program mvt prints and the fault in plain words. Answers of another status, and those to HEAD, are
+// passed on. So give it the paths of tiles alone.
 //
 // The server is asked for whole tiles, packed by gzip where the client takes that. A request holds up to 64 MiB of the answer,
 // and as many of the tile that it unpacks to.
@@ -89,8 +89,14 @@ func words(err error) string {
 	return "the tile server gives no answer"
 }
 
+// hasTile says whether an answer has content that a viewer takes as a tile.
+func hasTile(response *http.Response) bool {
+	status := response.StatusCode
+	return status/100 == 2 && status != http.StatusNoContent && response.Request.Method != http.MethodHead
+}
+
 func judge(response *http.Response) error {
-	if response.StatusCode != http.StatusOK || response.Request.Method == http.MethodHead {
+	if !hasTile(response) {
 		return nil
 	}
 	// What is larger as it is stored is larger unpacked, or no gzip worth the name.

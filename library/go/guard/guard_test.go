@@ -3,6 +3,7 @@ package guard
 import (
 	"bytes"
 	"compress/gzip"
+	"fmt"
 	"io"
 	"net/http"
 	"net/http/httptest"
@@ -51,6 +52,13 @@ func serve(w http.ResponseWriter, r *http.Request) {
 		w.Write(answer.body)
 		return
 	}
+	var status int
+	var kind string
+	if count, _ := fmt.Sscanf(r.URL.Path, "/%3d-%s", &status, &kind); count == 2 {
+		w.WriteHeader(status)
+		w.Write(answers["/"+kind].body)
+		return
+	}
 	switch r.URL.Path {
 	case "/early":
 		w.Header().Set("Content-Length", "100")
@@ -58,7 +66,7 @@ func serve(w http.ResponseWriter, r *http.Request) {
 	case "/none":
 		w.WriteHeader(http.StatusNoContent)
 	case "/asked":
-		w.WriteHeader(http.StatusAccepted)
+		w.WriteHeader(http.StatusTeapot)
 		io.WriteString(w, r.Header.Get("Accept-Encoding")+r.Header.Get("Range")+" "+r.Host+" "+r.Header.Get("X-Forwarded-Host"))
 	default:
 		http.NotFound(w, r)
@@ -119,6 +127,11 @@ func TestGuard(t *testing.T) {
 		"/early":          {502, "the tile server's answer ends early\n"},
 		"/large":          {502, "layer - feature - at 0: 25 TooLarge\n"},
 		"/none":           {204, ""},
+		"/201-broken":     {502, fault},
+		"/203-broken":     {502, fault},
+		"/206-broken":     {502, fault},
+		"/299-broken":     {502, fault},
+		"/203-good":       {203, string(good)},
 		"/other":          {404, "404 page not found\n"},
 	} {
 		path, wanted := path, wanted
