@@ -8,6 +8,10 @@
 #ifndef MVT_HPP
 #define MVT_HPP
 
+#if defined(_MSVC_LANG) ? _MSVC_LANG < 202002L : __cplusplus < 202002L
+#error "mvt.hpp needs C++20: -std=c++20"
+#endif
+
 #include "mvt.h"
 
 #include <algorithm>
@@ -31,6 +35,13 @@
 #include <variant>
 #include <vector>
 
+/* Where the compiler can tell, it warns of what is kept longer than the temporary that it looks into. */
+#if defined(__clang__) && __has_cpp_attribute(clang::lifetimebound)
+#define MVT_LOOKED_INTO [[clang::lifetimebound]]
+#else
+#define MVT_LOOKED_INTO
+#endif
+
 namespace mvt {
 
 using byte_span = std::span<const std::uint8_t>;
@@ -52,14 +63,15 @@ concept bytes_in_a_row = std::ranges::contiguous_range<R> && std::ranges::sized_
                          !(std::is_array_v<R> && std::same_as<std::ranges::range_value_t<R>, char>);
 } // namespace detail
 
-/// The bytes that a call takes, from anything contiguous: a string, a vector of char or std::byte, a span.
+/// The bytes that a call takes, from anything contiguous: a string, a vector of char or std::byte, a span. It looks into
+/// these, so it is for parameters: a variable of this type dangles once the bytes are gone, at once if they are a temporary.
 class input {
 public:
     constexpr input() noexcept = default;
     constexpr input(const std::uint8_t *data, std::size_t size) noexcept : bytes_(data, size) {}
     template <class R>
         requires(!std::same_as<std::remove_cvref_t<R>, input> && detail::bytes_in_a_row<std::remove_reference_t<R>>)
-    input(R &&of) noexcept
+    input(R &&of MVT_LOOKED_INTO) noexcept
         : bytes_(reinterpret_cast<const std::uint8_t *>(std::ranges::data(of)), std::ranges::size(of)) {}
 
     [[nodiscard]] const std::uint8_t *data() const noexcept { return bytes_.data(); }
@@ -72,6 +84,31 @@ private:
 /// The base of all errors, except out of memory, which is std::bad_alloc.
 class error : public std::runtime_error {
     using std::runtime_error::runtime_error;
+};
+
+/// A text that a call takes, from whatever a std::string_view can be made of. Throws error for a null pointer. Like `input`,
+/// it is for parameters.
+class text_input {
+public:
+    constexpr text_input() noexcept = default;
+    constexpr text_input(const char *data, std::size_t size) noexcept : view_(data, size) {}
+    template <class T>
+        requires(std::convertible_to<const T &, std::string_view> && !std::same_as<T, std::nullptr_t>)
+    text_input(const T &of MVT_LOOKED_INTO) : view_(view_of(of)) {}
+    text_input(std::nullptr_t) = delete;
+
+    [[nodiscard]] std::string_view view() const noexcept { return view_; }
+    [[nodiscard]] mvt_bytes bytes() const noexcept { return {bytes_of(view_).data(), view_.size()}; }
+
+private:
+    template <class T>
+    static std::string_view view_of(const T &of) {
+        if constexpr (std::is_pointer_v<T>)
+            if (of == nullptr) throw error("a text is a null pointer");
+        return of;
+    }
+
+    std::string_view view_;
 };
 
 /// The result would be larger than 67,108,864 bytes.
@@ -190,7 +227,8 @@ inline void require_ok(std::uint32_t status, const mvt_fault &fault, input of = 
 class bytes {
 public:
     bytes() noexcept = default;
-    /// Takes over what a call of mvt.h returned, and frees it.
+    /// Takes over what a call of mvt.h put into its `out`, and frees it. Not for bytes inside of what was returned, such as
+    /// the name of a fault or of a place, nor for bytes from elsewhere.
     [[nodiscard]] static bytes adopt(const mvt_bytes &held) noexcept {
         bytes made;
         made.held_ = held;
@@ -230,11 +268,14 @@ private:
 /// A value: a text, a number or a truth. A signed number is an int or a sint, by the `kind` of its row.
 using value = std::variant<std::string_view, float, double, std::int64_t, std::uint64_t, bool>;
 
-/// A tile as rows. Views of its lists and texts are valid as long as the tile lives, so a temporary has none.
+/// A tile as rows. Views of its lists and texts are valid as long as the tile lives, so a temporary has none. A call that
+/// takes a row throws error if the row is of another tile and leads beyond this one's lists; a tile that was moved from has
+/// no rows.
 class tile {
 public:
     tile() noexcept = default;
-    /// Takes over rows that a call of mvt.h returned, and frees them. Don't pass rows made by hand.
+    /// Takes over the rows that mvt_read, mvt_read_within, mvt_read_layer or mvt_decoder_finish returned, and frees them. Not
+    /// for those of mvt_builder_rows, which the builder frees, nor for rows made by hand.
     [[nodiscard]] static tile adopt(const mvt_tile &rows) noexcept {
         tile made;
         made.rows_ = rows;
@@ -255,50 +296,53 @@ public:
     std::span<const mvt_layer> layers() const && = delete;
 
     /// The layer of version 2 with this name, or a null pointer.
-    [[nodiscard]] const mvt_layer *layer(std::string_view name) const & noexcept {
+    [[nodiscard]] const mvt_layer *layer(text_input name) const & {
         const auto all = layers();
         const auto at = std::ranges::find_if(
-            all, [&](const mvt_layer &it) { return it.version == 2 && text(it.name) == name; });
+            all, [&](const mvt_layer &it) { return it.version == 2 && text(it.name) == name.view(); });
         return at == all.end() ? nullptr : &*at;
     }
-    const mvt_layer *layer(std::string_view name) const && = delete;
+    const mvt_layer *layer(text_input name) const && = delete;
 
-    [[nodiscard]] std::span<const mvt_feature> features(const mvt_layer &layer) const & noexcept {
-        return part(rows_.features, layer.features);
+    [[nodiscard]] std::span<const mvt_feature> features(const mvt_layer &layer) const & {
+        return part(rows_.features, rows_.feature_count, layer.features);
     }
     std::span<const mvt_feature> features(const mvt_layer &) const && = delete;
 
-    [[nodiscard]] std::span<const mvt_part> parts(const mvt_feature &feature) const & noexcept {
-        return part(rows_.parts, feature.parts);
+    [[nodiscard]] std::span<const mvt_part> parts(const mvt_feature &feature) const & {
+        return part(rows_.parts, rows_.part_count, feature.parts);
     }
     std::span<const mvt_part> parts(const mvt_feature &) const && = delete;
 
-    [[nodiscard]] std::span<const mvt_point> points(const mvt_part &of) const & noexcept {
-        return part(rows_.points, of.points);
+    [[nodiscard]] std::span<const mvt_point> points(const mvt_part &of) const & {
+        return part(rows_.points, rows_.point_count, of.points);
     }
     std::span<const mvt_point> points(const mvt_part &) const && = delete;
 
     /// The integers of an unknown geometry.
-    [[nodiscard]] std::span<const std::uint32_t> integers(const mvt_feature &feature) const & noexcept {
-        return part(rows_.integers, feature.integers);
+    [[nodiscard]] std::span<const std::uint32_t> integers(const mvt_feature &feature) const & {
+        return part(rows_.integers, rows_.integer_count, feature.integers);
     }
     std::span<const std::uint32_t> integers(const mvt_feature &) const && = delete;
 
     /// A span of the texts: a layer's name, or the bytes of a layer of another version.
-    [[nodiscard]] std::string_view text(mvt_span span) const & noexcept {
-        const auto bytes = part(rows_.texts, span);
+    [[nodiscard]] std::string_view text(mvt_span span) const & {
+        const auto bytes = part(rows_.texts, rows_.text_len, span);
         return {reinterpret_cast<const char *>(bytes.data()), bytes.size()};
     }
     std::string_view text(mvt_span) const && = delete;
 
     /// Calls `visit(key, value)` with each attribute of a feature of the layer, in order.
     template <class Visit>
-    void attributes(const mvt_layer &layer, const mvt_feature &feature, Visit visit) const {
-        const auto keys = part(rows_.keys, layer.keys);
-        const auto values = part(rows_.values, layer.values);
-        const auto tags = part(rows_.tags, feature.tags);
-        for (std::size_t i = 0; i + 1 < tags.size(); i += 2) visit(text(keys[tags[i]]), value_of(values[tags[i + 1]]));
+    void attributes(const mvt_layer &layer, const mvt_feature &feature, Visit visit) const & {
+        const auto keys = part(rows_.keys, rows_.key_count, layer.keys);
+        const auto values = part(rows_.values, rows_.value_count, layer.values);
+        const auto tags = part(rows_.tags, rows_.tag_count, feature.tags);
+        for (std::size_t i = 0; i + 1 < tags.size(); i += 2)
+            visit(text(at(keys, tags[i])), value_of(at(values, tags[i + 1])));
     }
+    template <class Visit>
+    void attributes(const mvt_layer &, const mvt_feature &, Visit) const && = delete;
 
     [[nodiscard]] value value_of(const mvt_value &row) const & {
         switch (row.kind) {
@@ -313,10 +357,19 @@ public:
     value value_of(const mvt_value &) const && = delete;
 
 private:
+    [[noreturn]] static void refuse() { throw error("a row of another tile, or of one that was moved from"); }
+
     template <class Row>
-    static std::span<const Row> part(const Row *list, mvt_span span) noexcept {
+    static std::span<const Row> part(const Row *list, std::size_t count, mvt_span span) {
         if (span.len == 0) return {};
+        if (span.start > count || span.len > count - span.start) refuse();
         return {list + span.start, static_cast<std::size_t>(span.len)};
+    }
+
+    template <class Row>
+    static const Row &at(std::span<const Row> rows, std::uint32_t index) {
+        if (index >= rows.size()) refuse();
+        return rows[index];
     }
 
     mvt_tile rows_{};
@@ -332,11 +385,11 @@ private:
 
 /// The first layer of version 2 with this name, as a tile that has no other layer. Reads only as far as this layer; later
 /// bytes may be broken. Throws refused and no_layer.
-[[nodiscard]] inline tile read_layer(input of, std::string_view name) {
+[[nodiscard]] inline tile read_layer(input of, text_input name) {
     mvt_tile rows{};
     mvt_fault fault{};
-    const std::uint32_t status = mvt_read_layer(of.data(), of.size(), {bytes_of(name).data(), name.size()}, &rows, &fault);
-    if (status == MVT_NO_LAYER) throw no_layer(std::string(name));
+    const std::uint32_t status = mvt_read_layer(of.data(), of.size(), name.bytes(), &rows, &fault);
+    if (status == MVT_NO_LAYER) throw no_layer(std::string(name.view()));
     require_ok(status, fault, of);
     return tile::adopt(rows);
 }
@@ -414,10 +467,7 @@ template <std::ranges::input_range Names>
     requires detail::lasting_name<std::ranges::range_reference_t<Names>>
 [[nodiscard]] bytes extract(input of, Names &&names) {
     std::vector<mvt_bytes> rows;
-    for (auto &&name : names) {
-        const std::string_view text = name;
-        rows.push_back({bytes_of(text).data(), text.size()});
-    }
+    for (auto &&name : names) rows.push_back(text_input(name).bytes());
     mvt_bytes out{};
     mvt_fault fault{};
     std::size_t missing = 0;
@@ -459,7 +509,7 @@ namespace detail {
 /// A value for the builder. A whole number is a uint or, if negative, a sint; mvt_any_int and the like make other
 /// kinds.
 template <class T>
-mvt_any any_of(const T &value) noexcept {
+mvt_any any_of(const T &value) {
     if constexpr (std::same_as<T, mvt_any>) return value;
     else if constexpr (std::same_as<T, bool>) return mvt_any_bool(value);
     else if constexpr (std::same_as<T, float>) return mvt_any_float(value);
@@ -467,19 +517,16 @@ mvt_any any_of(const T &value) noexcept {
     else if constexpr (std::unsigned_integral<T>) return mvt_any_uint(value);
     else if constexpr (std::integral<T>)
         return value < 0 ? mvt_any_sint(value) : mvt_any_uint(static_cast<std::uint64_t>(value));
-    else {
-        const std::string_view text = value;
-        return mvt_any_text({bytes_of(text).data(), text.size()});
-    }
+    else return mvt_any_text(text_input(value).bytes());
 }
 
-inline mvt_any any_of(const value &of) noexcept {
+inline mvt_any any_of(const value &of) {
     return std::visit([](const auto &it) { return any_of(it); }, of);
 }
 
 template <class T>
 concept valued = std::same_as<T, mvt_any> || std::same_as<T, value> || std::integral<T> || std::same_as<T, float> ||
-                 std::same_as<T, double> || std::convertible_to<const T &, std::string_view>;
+                 std::same_as<T, double> || std::convertible_to<const T &, text_input>;
 } // namespace detail
 
 /// Makes a tile step by step: begin a layer, begin a feature, add its tags and its points, and finish.
@@ -502,17 +549,17 @@ public:
     ~builder() { mvt_builder_free(&held_); }
 
     /// Begins a layer, and ends the one before.
-    builder &layer(std::string_view name, std::uint32_t extent = 4096) {
-        return done(mvt_builder_layer(&held_, text(name), extent));
+    builder &layer(text_input name, std::uint32_t extent = 4096) {
+        return done(mvt_builder_layer(&held_, name.bytes(), extent));
     }
     /// Adds a layer of another version than 2, given by its bytes.
     builder &foreign(std::uint32_t version, input of) {
         return done(mvt_builder_foreign(&held_, version, {of.data(), of.size()}));
     }
     /// The index of a key or a value of the layer, which is added if it is new.
-    [[nodiscard]] std::uint32_t key(std::string_view key) {
+    [[nodiscard]] std::uint32_t key(text_input key) {
         std::uint32_t index = 0;
-        done(mvt_builder_key(&held_, text(key), &index));
+        done(mvt_builder_key(&held_, key.bytes(), &index));
         return index;
     }
     template <detail::valued T>
@@ -529,8 +576,8 @@ public:
 
     /// Adds an attribute, by key and value or by their indices.
     template <detail::valued T>
-    builder &tag(std::string_view key, const T &value) {
-        return done(mvt_builder_tag(&held_, text(key), detail::any_of(value)));
+    builder &tag(text_input key, const T &value) {
+        return done(mvt_builder_tag(&held_, key.bytes(), detail::any_of(value)));
     }
     builder &tag_at(std::uint32_t key, std::uint32_t value) { return done(mvt_builder_tag_at(&held_, key, value)); }
 
@@ -560,8 +607,6 @@ public:
     }
 
 private:
-    static mvt_bytes text(std::string_view of) noexcept { return {bytes_of(of).data(), of.size()}; }
-
     builder &done(std::uint32_t status) {
         require_ok(status, {});
         return *this;
@@ -571,5 +616,7 @@ private:
 };
 
 } // namespace mvt
+
+#undef MVT_LOOKED_INTO
 
 #endif

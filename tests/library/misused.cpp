@@ -32,6 +32,18 @@ inline std::size_t use(const std::string &of, const mvt_tile &mine, const mvt_by
     sum += mvt::json("").size();
 #elif CASE == 10 // a span of what is gone
     sum += mvt::read(of).points(tile.parts(tile.features(tile.layers()[0])[0])[0]).size();
+#elif CASE == 11 // attributes of a tile that is gone, whose views may be kept
+    mvt::read(of).attributes(tile.layers()[0], tile.features(tile.layers()[0])[0], [](auto, auto) {});
+#elif CASE == 12 // a null pointer as a value
+    mvt::builder().layer("a").feature(MVT_POINTS).tag("k", nullptr);
+#elif CASE == 13 // a null pointer as a name
+    mvt::builder().layer(nullptr);
+#elif CASE == 14 // bytes that are gone: clang alone tells
+    const mvt::input kept = std::string("gone");
+    sum += kept.size();
+#elif CASE == 15 // the same, in a vector
+    const mvt::input kept{std::vector<char>(3)};
+    sum += kept.size();
 #endif
     return sum;
 }

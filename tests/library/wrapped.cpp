@@ -1,7 +1,7 @@
 // The wrapper for C++ as the program: wrapped COMMAND [NAME..] < tile. Its output, its line on standard error and its
-// status are those of `mvt COMMAND`. The commands `hold`, `look`, `write`, `share`, `take`, `lend`, `explain` and
-// `build` test the owners, the views, what is written of rows, threads, what bytes and names are taken, what is told of a
-// fault, and the builder; they print nothing.
+// status are those of `mvt COMMAND`. The commands `hold`, `look`, `write`, `share`, `take`, `lend`, `explain`,
+// `build` and `mix` test the owners, the views, what is written of rows, threads, what bytes and names are taken, what is
+// told of a fault, the builder, and what belongs to another tile or to none; they print nothing.
 #include "mvt.hpp"
 
 #include <algorithm>
@@ -105,6 +105,55 @@ void lend() {
     rows.layers = &layer, rows.layer_count = 1;
     rows.texts = reinterpret_cast<const std::uint8_t *>("a"), rows.text_len = 1;
     require(!mvt::write(rows).empty(), "rows made by hand aren't written");
+}
+
+template <class Call>
+void require_error(Call call, const char *what) {
+    try {
+        call();
+    } catch (const mvt::error &) {
+        return;
+    }
+    require(false, what);
+}
+
+/// Rows of another tile, rows after a move and texts that are null pointers are refused, and lead nowhere.
+void mix(mvt::byte_span input) {
+    const mvt::tile one = mvt::read(input);
+    const mvt::bytes made = mvt::builder().layer("a").feature(MVT_POINTS).tag("k", "v").point(1, 2).finish();
+    const mvt::tile two = mvt::read(made);
+    const mvt_layer &last = one.layers().back();
+    const mvt_feature &feature = one.features(last).back();
+    const mvt_part &part = one.parts(feature).back();
+    require_error([&] { static_cast<void>(two.features(last)); }, "features of another tile");
+    require_error([&] { static_cast<void>(two.parts(feature)); }, "parts of another tile");
+    require_error([&] { static_cast<void>(two.points(part)); }, "points of another tile");
+    require_error([&] { static_cast<void>(two.text(last.name)); }, "a text of another tile");
+    const auto ignore = [](std::string_view, const mvt::value &) {};
+    require_error([&] { two.attributes(last, feature, ignore); }, "attributes of another tile");
+    // Its tags are this tile's, and lead beyond the keys that the layer has here.
+    mvt_layer bare = one.layers().front();
+    bare.keys.len = 0;
+    require_error([&] { one.attributes(bare, one.features(bare).front(), ignore); }, "keys that the layer hasn't");
+
+    mvt::tile moved = mvt::read(input);
+    const mvt_layer layer = moved.layers().front();
+    const mvt::tile now = std::move(moved);
+    require_error([&] { static_cast<void>(moved.features(layer)); }, "features after a move");
+    require_error([&] { static_cast<void>(moved.text(layer.name)); }, "a name after a move");
+
+    const char *none = nullptr;
+    mvt::builder builder;
+    builder.layer("a").feature(MVT_POINTS);
+    require_error([&] { builder.tag("k", none); }, "a value that is a null pointer");
+    require_error([&] { builder.tag(none, 1); }, "a key that is a null pointer");
+    require_error([&] { builder.layer(none); }, "a layer's name that is a null pointer");
+    require_error([&] { static_cast<void>(builder.key(none)); }, "a key's index of a null pointer");
+    require_error([&] { static_cast<void>(builder.value(none)); }, "a value's index of a null pointer");
+    require_error([&] { static_cast<void>(mvt::read_layer(input, none)); }, "one layer of a null pointer");
+    require_error([&] { static_cast<void>(now.layer(none)); }, "a layer of a null pointer");
+    require_error([&] { static_cast<void>(mvt::extract(input, std::vector<const char *>{none})); }, "layers of a null pointer");
+    require(builder.tag("k", "v").point(1, 2).finish().str() == made.str(), "what was refused changed the tile");
 }
 
 /// A refused tile is told of in words, with the layer's name and the feature's id.
@@ -255,6 +304,7 @@ void call(const std::string &command, const std::vector<std::string_view> &names
     if (command == "share") return share(input);
     if (command == "take") return take(input), bound(input), pick(input);
     if (command == "lend") return lend();
+    if (command == "mix") return mix(input);
     if (command == "explain") return explain();
     if (command == "build") return build();
     if (command == "pieces") return pieces(input);
