@@ -7,6 +7,7 @@ import copy
 import dataclasses
 import gc
 import gzip
+import io
 import json
 import os
 import pickle
@@ -426,8 +427,36 @@ class Arrays(unittest.TestCase):
         self.assertEqual(points.dtype.names, ("x", "y"))
         self.assertEqual(len(points), len(flat.points))
         self.assertEqual(int(points["x"].astype(self.numpy.int64).sum()), sum(point.x for point in flat.points))
-        flat.points[0].x += 1
         self.assertEqual(int(points["x"][0]), flat.points[0].x)
+        self.assertFalse(points.flags.owndata)
+
+    def test_the_rows_of_a_tile_are_read_only(self):
+        """Nothing changes rows, which `write` reads while other threads run; from_arrays makes others."""
+        canonical = tile("gdal.canonical.mvt")
+        read = mvt.rows(canonical)
+        names = {it: read.array(it) for it in LISTS}
+        for flat in (read, mvt.Rows.from_arrays(**names), pickle.loads(pickle.dumps(read))):
+            for change in (
+                lambda: setattr(flat.points[0], "x", 1),
+                lambda: setattr(flat.layers[0].name, "start", 1),
+                lambda: flat.points.__setitem__(0, mvt.PointRow(1, 1)),
+                lambda: flat.tags.__setitem__(0, 1),
+                lambda: flat.texts.__delitem__(0),
+                lambda: flat.array("points").__setitem__(0, (1, 1)),
+                lambda: flat.array("texts").setflags(write=True),
+                lambda: memoryview(flat.texts).__setitem__(0, 1),
+                lambda: memoryview(flat.points[0]).cast("B").__setitem__(0, 1),
+                lambda: io.BytesIO(b"12345678").readinto(flat.points[0]),
+            ):
+                with self.assertRaises((TypeError, ValueError, BufferError)):
+                    change()
+            self.assertEqual(mvt.write(flat), canonical)
+        own = mvt.LayerRow(version=2)
+        own.name.start = 3
+        self.assertEqual((own.version, own.name.start), (2, 3))
+        points = read.array("points").copy()
+        points["x"][0] += 1
+        self.assertEqual(mvt.Rows.from_arrays(points=points).points[0].x, read.points[0].x + 1)
 
     def test_lasts_without_the_rows(self):
         wanted = mvt.rows(tile("gdal.mvt")).array("points").tolist()

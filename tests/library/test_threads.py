@@ -1,8 +1,10 @@
 """The module's calls let Python's lock go while the library works, and threads may share what they make."""
 
+import gc
 import threading
 import time
 import unittest
+import unittest.mock
 from concurrent.futures import ThreadPoolExecutor
 from pathlib import Path
 
@@ -51,6 +53,45 @@ class Lock(unittest.TestCase):
             lambda: decoder.feed(tile),
         ):
             self.assertGreater(self.ticks(call), 0)
+
+
+class Collector(unittest.TestCase):
+    """Python's collector of cycles rests while a tile is read; what others say of it meanwhile stands."""
+
+    def setUp(self):
+        self.assertTrue(gc.isenabled())
+        self.thresholds = gc.get_threshold()
+        self.addCleanup(gc.set_threshold, *self.thresholds)
+        self.addCleanup(gc.enable)
+
+    def meanwhile(self, call):
+        """Reads a tile, and calls what another thread may call before it is read."""
+        made = mvt.Layer.__init__
+
+        def init(*words, **named):
+            call()
+            made(*words, **named)
+
+        with unittest.mock.patch.object(mvt.Layer, "__init__", init):
+            mvt.read(TILE)
+
+    def test_runs_again(self):
+        rested = []
+        self.meanwhile(lambda: rested.append(gc.get_threshold()[0]))
+        self.assertEqual(set(rested), {0})
+        self.assertEqual((gc.isenabled(), gc.get_threshold()), (True, self.thresholds))
+
+    def test_stays_off(self):
+        self.meanwhile(gc.disable)
+        self.assertEqual((gc.isenabled(), gc.get_threshold()), (False, self.thresholds))
+
+    def test_keeps_new_thresholds(self):
+        self.meanwhile(lambda: gc.set_threshold(123, 4, 5))
+        self.assertEqual(gc.get_threshold(), (123, 4, 5))
+
+    def test_reads_within_reads(self):
+        self.meanwhile(lambda: mvt.read(b""))
+        self.assertEqual((gc.isenabled(), gc.get_threshold()), (True, self.thresholds))
 
 
 class Shared(unittest.TestCase):

@@ -144,17 +144,23 @@ static uint32_t extract(PyObject *tile, PyObject *names, held *out, mvt_fault *f
     return status;
 }
 
+/* The names, which are bytes, in a list of its own: what asks the tile for its bytes may change the one that was given. */
+static PyObject *names_copied(PyObject *names) {
+    PyObject *copy = PyList_GetSlice(names, 0, PyList_Size(names));
+    for (Py_ssize_t at = 0; copy != NULL && at < PyList_Size(copy); ++at) {
+        if (PyBytes_Check(PyList_GetItem(copy, at))) continue;
+        PyErr_SetString(PyExc_TypeError, "a name is bytes");
+        Py_CLEAR(copy);
+    }
+    return copy;
+}
+
 static PyObject *answer_extract(PyObject *module, PyObject *words) {
     PyObject *given, *names, *told = NULL;
     if (!PyArg_ParseTuple(words, "OO!:answer_extract", &given, &PyList_Type, &names)) return NULL;
-    for (Py_ssize_t at = 0; at < PyList_Size(names); ++at) {
-        if (PyBytes_Check(PyList_GetItem(names, at))) continue;
-        PyErr_SetString(PyExc_TypeError, "a name is bytes");
-        return NULL;
-    }
     state *of = state_of_module(module);
-    PyObject *tile = bytes_of(given), *copy = tile == NULL ? NULL : PyList_GetSlice(names, 0, PyList_Size(names));
-    held *out = copy == NULL ? NULL : new_held(of);
+    PyObject *copy = names_copied(names), *tile = copy == NULL ? NULL : bytes_of(given);
+    held *out = tile == NULL ? NULL : new_held(of);
     if (out != NULL) {
         mvt_fault fault = {0};
         const uint32_t status = extract(tile, copy, out, &fault);

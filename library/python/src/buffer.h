@@ -15,14 +15,21 @@ typedef struct {
     void *internal;
 } buffer;
 
-enum { SLOT_GETBUFFER = 1, WITH_FORMAT = 4, WITH_SHAPE = 8, WITH_STRIDES = 16 };
+enum { SLOT_GETBUFFER = 1, TO_WRITE = 1, WITH_FORMAT = 4, WITH_SHAPE = 8, WITH_STRIDES = 16 };
+
+#define READ_ONLY "the rows of a tile are read only: mvt.Rows.from_arrays makes others"
 
 /* Lends the memory of an object: rows of a list, or one row where `shape` is NULL. */
 static inline int lend(buffer *out, int flags, PyObject *owner, void *data, Py_ssize_t *shape, Py_ssize_t *size,
-                       const char *format) {
+                       const char *format, int is_fixed) {
+    if (is_fixed && flags & TO_WRITE) {
+        out->obj = NULL;
+        PyErr_SetString(PyExc_BufferError, READ_ONLY);
+        return -1;
+    }
     Py_INCREF(owner);
     out->obj = owner, out->buf = data, out->len = *size * (shape == NULL ? 1 : *shape), out->itemsize = *size;
-    out->readonly = 0, out->ndim = shape != NULL;
+    out->readonly = is_fixed, out->ndim = shape != NULL;
     out->format = flags & WITH_FORMAT ? (char *)format : NULL;
     out->shape = flags & WITH_SHAPE ? shape : NULL;
     out->strides = shape != NULL && flags & WITH_STRIDES ? size : NULL;

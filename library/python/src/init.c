@@ -69,8 +69,8 @@ static const wanted CLASSES[] = {
     WANTED("mvt._errors", "NoTile", no_tile),
     WANTED("mvt._errors", "OutOfRange", out_of_range),
     WANTED("gc", "isenabled", is_collecting),
-    WANTED("gc", "disable", stop),
-    WANTED("gc", "enable", start),
+    WANTED("gc", "get_threshold", thresholds),
+    WANTED("gc", "set_threshold", set_thresholds),
     WANTED("gc", "collect", collect),
 };
 

@@ -41,7 +41,7 @@ static PyObject *list_item(PyObject *self, Py_ssize_t at) {
         return NULL;
     }
     uint8_t *data = of->data + at * of->size;
-    if (LIST_KINDS[of->kind].row != ROWS) return new_row(of->of, LIST_KINDS[of->kind].row, of->owner, data);
+    if (LIST_KINDS[of->kind].row != ROWS) return new_row(of->of, LIST_KINDS[of->kind].row, of->owner, data, 1);
     if (of->size == 1) return PyLong_FromLong(*data);
     uint32_t number;
     memcpy(&number, data, sizeof number);
@@ -75,32 +75,17 @@ static PyObject *list_at(PyObject *self, PyObject *given) {
     return made;
 }
 
-static int list_put(PyObject *self, PyObject *at_given, PyObject *given) {
-    const list *of = (list *)self;
-    if (given == NULL || PySlice_Check(at_given)) {
-        PyErr_SetString(PyExc_TypeError, "one row is set at a time, and none deleted");
-        return -1;
-    }
-    const Py_ssize_t at = index_meant(of, at_given);
-    if (at < 0) return -1;
-    uint8_t *data = of->data + at * of->size;
-    if (LIST_KINDS[of->kind].row != ROWS) return row_copied(of->of, LIST_KINDS[of->kind].row, given, data);
-    const unsigned long number = PyLong_AsUnsignedLongMask(given);
-    if (number == (unsigned long)-1 && PyErr_Occurred()) return -1;
-    const uint32_t word = (uint32_t)number;
-    if (of->size == 1) {
-        *data = (uint8_t)word;
-    } else {
-        memcpy(data, &word, sizeof word);
-    }
-    return 0;
+static int list_put(PyObject *self, PyObject *at, PyObject *given) {
+    (void)self, (void)at, (void)given;
+    PyErr_SetString(PyExc_TypeError, READ_ONLY);
+    return -1;
 }
 
 static int list_lends(PyObject *self, buffer *out, int flags) {
     list *of = (list *)self;
     const int row = LIST_KINDS[of->kind].row;
     const char *format = row != ROWS ? row_format(row) : of->size == 1 ? "B" : "I";
-    return lend(out, flags, self, of->data, &of->count, &of->size, format);
+    return lend(out, flags, self, of->data, &of->count, &of->size, format, 1);
 }
 
 static PyType_Slot LIST_SLOTS[] = {{Py_tp_new, never_new},

@@ -28,7 +28,7 @@ typedef struct {
     PyObject *error, *refused, *too_large, *no_layer, *no_tile, *out_of_range;
     PyObject *rows[ROWS], *list, *held, *flat, *builder, *decoder;
     PyObject *names[NAMES], *kinds[4], *no_words, *new_float;
-    PyObject *is_collecting, *stop, *start, *collect, *young; /* calls of the collector of cycles, and a word for it */
+    PyObject *is_collecting, *thresholds, *set_thresholds, *collect, *young; /* calls of the collector of cycles, and a word for it */
     newfunc new_feature;
 } state;
 
@@ -47,7 +47,8 @@ int raise_for(const state *of, uint32_t status, const mvt_fault *fault, const ui
 int raise_no_tile(const state *of, const mvt_rows_fault *wrong);
 extern PyMethodDef CALLS[], ANSWERS_CALLS[];
 
-/* Rows. A list and a row look into memory of an owner, which lasts as long as they do. */
+/* Rows. A list and a row look into memory of an owner, which lasts as long as they do. Nothing changes the rows of a tile,
+ * which are read while other threads run. */
 typedef struct {
     const char *name;
     size_t size;
@@ -69,7 +70,7 @@ typedef struct {
     state *of;
     PyObject *owner; /* NULL where the row has memory of its own */
     uint8_t *data;
-    int kind;
+    int kind, is_fixed; /* whether it is a tile's, which nobody changes */
 } row;
 
 /* What is given back by mvt_tile_free. */
@@ -87,7 +88,7 @@ typedef struct {
 
 extern const list_kind LIST_KINDS[LISTS];
 int add_row_types(PyObject *module, state *of);
-PyObject *new_row(state *of, int kind, PyObject *owner, uint8_t *data);
+PyObject *new_row(state *of, int kind, PyObject *owner, uint8_t *data, int is_fixed);
 const char *row_format(int kind);
 size_t row_size(int kind);
 int row_copied(state *of, int kind, PyObject *given, uint8_t *to);

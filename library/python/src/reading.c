@@ -12,7 +12,7 @@ typedef struct {
     const state *of;
     const mvt_tile *tile;
     PyObject **shared; /* SHARED positions from SHARED_FROM on, where they were met; or NULL */
-    int collects;      /* whether the collector ran before */
+    PyObject *thresholds; /* the collector's own, if it ran before, else NULL */
     uint64_t made;     /* objects that the collector hasn't looked at */
 } reader;
 
@@ -181,7 +181,7 @@ static PyObject *values_of(const reader *from, mvt_span span) {
 static void count_made(reader *from, const mvt_feature *row) {
     from->made += 2 + row->parts.len;
     for (uint64_t i = 0; i < row->parts.len; ++i) from->made += from->tile->parts[row->parts.start + i].points.len;
-    if (from->collects && from->made >= AT_A_TIME) look(from);
+    if (from->thresholds != NULL && from->made >= AT_A_TIME) look(from);
 }
 
 static PyObject *features_of(reader *from, const mvt_layer *row) {
@@ -222,34 +222,49 @@ static PyObject *layers_of(reader *from) {
     return layers;
 }
 
-/* Whether the collector runs, which is then stopped: as objects grow in number it would look at all that there are again and
- * again, and there are no cycles among new ones. */
-static int stop_collector(const state *of) {
-    PyObject *was = PyObject_CallObject(of->is_collecting, NULL);
-    const int ran = was == Py_True;
-    Py_XDECREF(was);
-    if (ran) Py_XDECREF(PyObject_CallObject(of->stop, NULL));
-    PyErr_Clear();
-    return ran;
+/* Whether the collector runs by itself: it is on, and its first threshold isn't 0. */
+static int is_running(const state *of, PyObject *thresholds) {
+    PyObject *on = PyObject_CallObject(of->is_collecting, NULL);
+    const int runs = on == Py_True && PyLong_AsLong(PyTuple_GetItem(thresholds, 0)) != 0;
+    Py_XDECREF(on);
+    return runs;
 }
 
-/* Lets the collector run again. What is new it has seen then, where there is much. */
+/* Has the collector not run by itself: as objects grow in number it would look at all that there are again and again, and
+ * there are no cycles among new ones. Its thresholds say so, and not whether it is on, which is for others to say meanwhile.
+ * Answers what they were, or NULL where it doesn't run. */
+static PyObject *stop_collector(const state *of) {
+    PyObject *thresholds = PyObject_CallObject(of->thresholds, NULL);
+    if (thresholds != NULL && is_running(of, thresholds)) {
+        Py_XDECREF(PyObject_CallFunction(of->set_thresholds, "i", 0));
+    } else {
+        Py_CLEAR(thresholds);
+    }
+    PyErr_Clear();
+    return thresholds;
+}
+
+/* Lets the collector run again, where nobody set other thresholds. What is new it has seen then, where there is much. */
 static void start_collector(reader *from) {
     PyObject *type, *value, *traceback;
     PyErr_Fetch(&type, &value, &traceback);
     if (from->made >= FEW) look(from);
-    Py_XDECREF(PyObject_CallObject(from->of->start, NULL));
+    PyObject *now = PyObject_CallObject(from->of->thresholds, NULL);
+    if (now != NULL && PyLong_AsLong(PyTuple_GetItem(now, 0)) == 0)
+        Py_XDECREF(PyObject_CallObject(from->of->set_thresholds, from->thresholds));
+    Py_XDECREF(now);
+    Py_DECREF(from->thresholds);
     PyErr_Restore(type, value, traceback);
 }
 
 /* The list of a tile's layers. */
 static PyObject *layers_read(const state *of, const mvt_tile *tile) {
-    reader from = {.of = of, .tile = tile, .collects = stop_collector(of)};
+    reader from = {.of = of, .tile = tile, .thresholds = stop_collector(of)};
     if (tile->point_count >= MANY_POINTS) from.shared = PyMem_Calloc(SHARED, sizeof *from.shared);
     PyObject *layers = layers_of(&from);
     for (size_t i = 0; from.shared != NULL && i < SHARED; ++i) Py_XDECREF(from.shared[i]);
     PyMem_Free(from.shared);
-    if (from.collects) start_collector(&from);
+    if (from.thresholds != NULL) start_collector(&from);
     return layers;
 }
 

@@ -64,11 +64,11 @@ const char *row_format(int kind) {
     return formats[kind];
 }
 
-PyObject *new_row(state *of, int kind, PyObject *owner, uint8_t *data) {
+PyObject *new_row(state *of, int kind, PyObject *owner, uint8_t *data, int is_fixed) {
     row *made = (row *)allocated(of->rows[kind]);
     if (made == NULL) return NULL;
     Py_XINCREF(owner);
-    made->of = of, made->kind = kind, made->owner = owner, made->data = data;
+    made->of = of, made->kind = kind, made->owner = owner, made->data = data, made->is_fixed = is_fixed;
     return (PyObject *)made;
 }
 
@@ -83,7 +83,7 @@ static PyObject *get_field(PyObject *self, void *closure) {
     case 'I': return memcpy(&word, at, sizeof word), PyLong_FromUnsignedLong(word);
     case 'Q': return memcpy(&number, at, sizeof number), PyLong_FromUnsignedLongLong(number);
     case 'i': return memcpy(&position, at, sizeof position), PyLong_FromLong(position);
-    default: return new_row(from->of, SPAN, from->owner != NULL ? from->owner : self, at);
+    default: return new_row(from->of, SPAN, from->owner != NULL ? from->owner : self, at, from->is_fixed);
     }
 }
 
@@ -105,6 +105,10 @@ int row_copied(state *of, int kind, PyObject *given, uint8_t *to) {
 static int set_field(PyObject *self, PyObject *given, void *closure) {
     row *to = (row *)self;
     const field *of = closure;
+    if (to->is_fixed) {
+        PyErr_SetString(PyExc_TypeError, READ_ONLY);
+        return -1;
+    }
     if (given == NULL) {
         PyErr_Format(PyExc_TypeError, "%s can't be deleted", of->name);
         return -1;
@@ -221,7 +225,7 @@ static int row_lends(PyObject *self, buffer *out, int flags) {
     static Py_ssize_t sizes[ROWS];
     const row *of = (row *)self;
     sizes[of->kind] = (Py_ssize_t)STRUCTURES[of->kind].size;
-    return lend(out, flags, self, of->data, NULL, &sizes[of->kind], row_format(of->kind));
+    return lend(out, flags, self, of->data, NULL, &sizes[of->kind], row_format(of->kind), of->is_fixed);
 }
 
 static PyMethodDef ROW_METHODS[] = {{"__reduce__", row_reduce, METH_NOARGS, NULL}, {NULL, NULL, 0, NULL}};
