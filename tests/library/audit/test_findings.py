@@ -151,7 +151,7 @@ class Tiles(unittest.TestCase):
 
     def test_beside_notes(self):
         row = self.row(layer("a", [b""]) + layer("b", []))
-        self.assertEqual(row[4:], Row(*[None] * 4, "accepted", row.bytes, notes="NoFeatures layer 1", findings=1, lint="NoGeometry layer 0 feature 0")[4:])
+        self.assertEqual(row[4:], Row(*[None] * 4, 1, "accepted", row.bytes, notes="NoFeatures layer 1", findings=1, lint="NoGeometry layer 0 feature 0")[4:])
 
     def test_large_tiles_are_looked_at(self):
         # an unknown field makes it large

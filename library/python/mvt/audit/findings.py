@@ -48,14 +48,14 @@ class Found:
         """A tile, and the first finding of each kind in it."""
         for line in lint.split("; "):
             kind = address.z, line.split(" ", 1)[0]
-            self._tiles[kind] += 1
+            self._tiles[kind] += address.tiles
             if kind not in self._examples or _order(address) < _order(self._examples[kind][0]):
                 self._examples[kind] = address, line
 
     def write(self, database: sqlite3.Connection) -> None:
         counts = ((*kind, tiles) for kind, tiles in self._tiles.items())
         database.executemany("insert into finding_counts values (?, ?, ?)", counts)
-        rows = ((*kind, *address[1:], line) for kind, (address, line) in self._examples.items())
+        rows = ((*kind, at.x, at.y, at.name, line) for kind, (at, line) in self._examples.items())
         database.executemany("insert into finding_examples values (?, ?, ?, ?, ?, ?)", rows)
 
 
@@ -82,7 +82,8 @@ class Kind(NamedTuple):
     def told(self) -> Dict[str, Any]:
         """The same as it becomes JSON."""
         zooms = [{"z": z, "tiles": tiles} for z, tiles in self.zooms]
-        example = {"store": self.store, **self.address._asdict(), "lint": self.lint}
+        z, x, y, name, _ = self.address
+        example = {"store": self.store, "z": z, "x": x, "y": y, "name": name, "lint": self.lint}
         return {"finding": self.name, "tiles": self.tiles, "zooms": zooms, "example": example}
 
 

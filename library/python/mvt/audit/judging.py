@@ -8,7 +8,7 @@ from contextlib import closing
 from functools import lru_cache
 from operator import itemgetter
 from pathlib import Path
-from typing import Any, Dict, Iterable, Iterator, List, NamedTuple, Optional, Tuple
+from typing import Any, Dict, Iterable, List, NamedTuple, Optional, Tuple
 
 import mvt
 from mvt._mvt import located, looked_at
@@ -37,7 +37,7 @@ _MOST_KEPT, _SMALL = 1000, 400
 # The table of tiles, and what is counted of them, as the results and each block have it.
 TILES = """
 create table tiles (
-  store text not null, z integer, x integer, y integer, name text, verdict text not null, bytes integer,
+  store text not null, z integer, x integer, y integer, name text, tiles integer not null, verdict text not null, bytes integer,
   layer integer, layer_name text, feature integer, feature_id text, place integer, cause integer, cause_name text,
   notes text not null, findings integer, lint text not null);
 """
@@ -61,6 +61,7 @@ class Row(NamedTuple):
     x: Optional[int]
     y: Optional[int]
     name: Optional[str]
+    tiles: int
     verdict: str
     bytes: Optional[int]
     layer: Optional[int] = None
@@ -182,9 +183,10 @@ def judged_part(store: Store, part: Any) -> bytes:
 # So many rows of a kind are held as objects of Python.
 _AT_A_TIME = 1000
 
-_VERDICT, _FINDINGS, _LINT = (Row._fields.index(name) for name in ("verdict", "findings", "lint"))
+_TILES, _VERDICT, _FINDINGS, _LINT = (Row._fields.index(name) for name in ("tiles", "verdict", "findings", "lint"))
+_ZOOM = itemgetter(*(Row._fields.index(name) for name in ("z", "tiles")))
 _KIND = itemgetter(*(Row._fields.index(name) for name in ("z", "verdict", "cause", "cause_name", "layer_name")))
-_NOTED = itemgetter(*(Row._fields.index(name) for name in ("z", "verdict", "notes")))
+_NOTED = itemgetter(*(Row._fields.index(name) for name in ("z", "verdict", "notes", "tiles")))
 
 
 class _Block:
@@ -204,8 +206,8 @@ class _Block:
         # A text within a command isn't bound for each row.
         text = path.replace("'", "''")
         self._insert = f"insert into tiles values ('{text}'{', ?' * len(Row._fields)})"
-        self._insert_plain = f"""insert into tiles (store, z, x, y, name, bytes, verdict, notes, findings, lint)
- values ('{text}', ?, ?, ?, ?, ?, '{ACCEPTED}', '', 0, '')"""
+        self._insert_plain = f"""insert into tiles (store, z, x, y, name, tiles, bytes, verdict, notes, findings, lint)
+ values ('{text}', ?, ?, ?, ?, ?, ?, '{ACCEPTED}', '', 0, '')"""
         database.executescript(f"{_BLOCK} begin;")
 
     def write(self) -> None:
@@ -213,21 +215,27 @@ class _Block:
         plain, others = self.plain, self.others
         self._database.executemany(self._insert_plain, plain)
         self._database.executemany(self._insert, others)
-        for z, tiles in Counter(map(itemgetter(0), plain)).items():
-            self._kinds[z, ACCEPTED, None, None, None, 0] += tiles
-        self._kinds.update((*_KIND(row), row[_FINDINGS] and 1) for row in others)
-        for z, verdict, said in map(_NOTED, others):
-            if said and verdict in (ACCEPTED, EMPTY):
-                self._notes.update((z, note) for note in {line.split(" ")[0] for line in said.split("; ")} - {"and"})
+        for (z, tiles), rows in Counter(map(_ZOOM, plain)).items():
+            self._kinds[z, ACCEPTED, None, None, None, 0] += tiles * rows
+            self._tiles += tiles * rows
         for row in others:
-            if row[_FINDINGS]:
-                self._found.add(Address(*row[:_VERDICT]), row[_LINT])
-        self._cells.update(_cells(plain))
-        self._cells.update(_cells(others))
-        self._broken.update(_cells(row for row in others if row[_VERDICT] in BROKEN_VERDICTS))
-        self._tiles += len(plain) + len(others)
+            self._count(row)
+        _add_cells(self._cells, plain)
+        _add_cells(self._cells, others)
+        _add_cells(self._broken, (row for row in others if row[_VERDICT] in BROKEN_VERDICTS))
         plain.clear()
         others.clear()
+
+    def _count(self, row: Tuple[Any, ...]) -> None:
+        """Counts a row of which something is said."""
+        z, verdict, said, tiles = _NOTED(row)
+        self._tiles += tiles
+        self._kinds[(*_KIND(row), row[_FINDINGS] and 1)] += tiles
+        if said and verdict in (ACCEPTED, EMPTY):
+            for note in {line.split(" ")[0] for line in said.split("; ")} - {"and"}:
+                self._notes[z, note] += tiles
+        if row[_FINDINGS]:
+            self._found.add(Address(*row[:_VERDICT]), row[_LINT])
 
     def file(self) -> bytes:
         """All of it, as the bytes of a file."""
@@ -244,12 +252,12 @@ class _Block:
         return _file_of(database)
 
 
-def _cells(rows: Iterable[Tuple[Any, ...]]) -> Iterator[Tuple[int, int, int]]:
-    """The squares that tiles of deep zooms lie in."""
+def _add_cells(counted: "Counter[Tuple[int, int, int]]", rows: Iterable[Tuple[Any, ...]]) -> None:
+    """Counts tiles of deep zooms by the squares that they lie in, a run by that of its first tile."""
     for row in rows:
         z = row[0]
         if z is not None and z > SQUARES:
-            yield z, row[1] >> z - SQUARES, row[2] >> z - SQUARES
+            counted[z, row[1] >> z - SQUARES, row[2] >> z - SQUARES] += row[_TILES]
 
 
 def _file_of(database: sqlite3.Connection) -> bytes:

@@ -7,7 +7,7 @@ import sys
 import tempfile
 import time
 from pathlib import Path
-from typing import Any, Dict, Iterable, List, NamedTuple, Sequence, Set, Tuple
+from typing import Any, Dict, Iterable, List, NamedTuple, Sequence, Set
 
 from . import findings
 from .judging import BROKEN, TILES
@@ -28,7 +28,7 @@ create table note_counts (store text not null, z integer, note text not null, ti
 create table cells (
   z integer, x integer, y integer, tiles integer not null, broken integer not null, primary key (z, x, y)) without rowid;
 """
-VERSION = 3
+VERSION = 4
 
 # It is made when all tiles are in: while there is none, the rows of a block are copied as they stand.
 _INDEX = "create index if not exists tiles_not_accepted on tiles (verdict, cause, z) where verdict <> 'accepted'"

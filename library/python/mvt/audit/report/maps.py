@@ -56,7 +56,7 @@ class Table(NamedTuple):
     bits: str
 
 
-_TILES = Table("tiles", "1", BROKEN, "0")
+_TILES = Table("tiles", "tiles", f"tiles * ({BROKEN})", "0")
 _CELLS = Table("cells", "tiles", "broken", f"z - {SQUARES}")
 
 

@@ -154,9 +154,9 @@ def _example(example: Example, stores: Dict[str, Store]) -> str:
 
 
 def _within(example: Example) -> str:
-    """The layer and the feature, by name and id where they have such."""
+    """The run, the layer and the feature, these by name and id where they have such."""
     row = example.row
-    told = ""
+    told = f", the first of a run of {counted(row.tiles, 'tile')}" if row.tiles > 1 else ""
     if row.layer is not None:
         told += f", layer {row.layer}" + (f" “{row.layer_name}”" if row.layer_name is not None else "")
     if row.feature is not None:

@@ -19,12 +19,14 @@ class StoreError(Exception):
 
 
 class Address(NamedTuple):
-    """Which tile of its store: z, x and y, counted from the north, or a name, or both."""
+    """Which tile of its store: z, x and y, counted from the north, or a name, or both. Of a run of equal tiles it is the
+    first, and says how many they are."""
 
     z: Optional[int]
     x: Optional[int]
     y: Optional[int]
     name: Optional[str] = None
+    tiles: int = 1
 
     def __str__(self) -> str:
         return self.name if self.name is not None else f"{self.z}/{self.x}/{self.y}"
