@@ -12,6 +12,10 @@ says the layer, the feature, the place and the cause of the first broken rule. E
 uncompressed tile. Threads may call at the same time.
 """
 
+from . import _command
+
+_command.begin()
+
 from typing import TYPE_CHECKING, Any, Union
 
 from ._errors import MvtError, NoLayer, NoTile, OutOfRange, Refused, TooLarge

@@ -148,10 +148,9 @@ class Runs(Case):
         results, store = Results(self.into), Deadly()
         self.addCleanup(results.close)
         done = results.begin([store], [store.state()], 10)
-        with engine.workers(2, None) as client:
-            lost = engine.run(client, results, [store], done, lambda rows: None)
-        self.assertEqual([(part.store, part.part) for part in lost], [("/deadly", 1)])
-        self.assertIn("KilledWorker", lost[0].why)
+        with engine.workers(2, None) as workers:
+            lost = engine.run(workers, results, [store], done, lambda rows: None)
+        self.assertEqual(lost, [("/deadly", 1, "3 workers ended over it, the last with status 1")])
         self.assertEqual(results.done("/deadly"), ({0, 2}, 20))
 
     def test_a_changed_store_is_told_and_begun_anew_only_when_asked(self):

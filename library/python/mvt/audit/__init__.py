@@ -3,6 +3,5 @@
     $ mvt-audit world.mbtiles --into audit
 
 judges every tile with the proved library, on several processes or machines, and makes `audit/audit.sqlite` and
-`audit/report.html`. `docs/AUDIT.md` of the project has the tables. Wants `distributed` and `tqdm`, which the extra
-`libmvt[audit]` brings.
+`audit/report.html`. `docs/AUDIT.md` of the project has the tables.
 """

@@ -2,7 +2,8 @@
 
 import sys
 
-from .main import main
-
+# The workers' processes read this file too.
 if __name__ == "__main__":
+    from .main import main
+
     sys.exit(main())

@@ -1,37 +1,14 @@
-"""The work spread over processes or machines, by Dask."""
+"""The work spread over processes of this machine, or over the machines of a cluster."""
 
-import asyncio
 import contextlib
-import importlib
-import logging
-import os
-import signal
-import warnings
-from typing import Any, Callable, Dict, Iterator, List, NamedTuple, Optional, Sequence, Tuple
+import sqlite3
+from typing import Any, Callable, Dict, Iterator, List, NamedTuple, Optional, Protocol, Sequence, Tuple
 
-from .judging import judged_part
 from .results import Added, Block, Done, Results
-from .stores import Store
+from .stores import Store, StoreError
 
-# How many parts wait at the scheduler for each worker, so that none of them is idle, but with no more tiles than so many,
-# since their rows may all be in memory where the client is the slowest.
-AHEAD, MOST_TILES = 4, 8_000_000
-
-# What Dask is told, unless the environment says something else. Workers that are begun here read it too.
-SETTINGS = {
-    # They would tell of their own beginning and end on this terminal.
-    "LOGGING__DISTRIBUTED": "critical",
-    # Each part that is handed out would cost milliseconds, in which Dask looks up the source that hands it out.
-    "DISTRIBUTED__DIAGNOSTICS__COMPUTATIONS__IGNORE_MODULES": "['.*']",
-    "DISTRIBUTED__DIAGNOSTICS__COMPUTATIONS__NFRAMES": "0",
-    # It would look at itself from 2 to 100 times a second.
-    "DISTRIBUTED__WORKER__PROFILE__ENABLED": "False",
-    "DISTRIBUTED__ADMIN__TICK__INTERVAL": "500ms",
-    "DISTRIBUTED__ADMIN__SYSTEM_MONITOR__INTERVAL": "5s",
-    "DISTRIBUTED__WORKER__MEMORY__MONITOR_INTERVAL": "1s",
-    "DISTRIBUTED__SCHEDULER__WORK_STEALING_INTERVAL": "1s",
-    "DISTRIBUTED__CLIENT__SCHEDULER_INFO_INTERVAL": "10s",
-}
+# How many tiles wait for the workers at most, since their rows may all be in memory where the client is the slowest.
+MOST_TILES = 8_000_000
 
 # What is told of each finished part.
 Told = Callable[[Added], None]
@@ -39,6 +16,25 @@ Told = Callable[[Added], None]
 
 class EngineError(Exception):
     """Why there are no workers, in a line."""
+
+
+class Task(NamedTuple):
+    """A part of a store: its number, and which of the store's ranges it is."""
+
+    store: Store
+    part: int
+    tiles: Any
+
+    def name(self) -> Tuple[str, int]:
+        return self.store.path, self.part
+
+
+class Finished(NamedTuple):
+    """A part with what was found in it, as the bytes of a block; or None, and why no worker could finish it."""
+
+    task: Task
+    content: Optional[bytes]
+    why: str = ""
 
 
 class Lost(NamedTuple):
@@ -49,87 +45,74 @@ class Lost(NamedTuple):
     why: str
 
 
+class Workers(Protocol):
+    """What does the parts."""
+
+    # How many there are, and how many parts they are handed at a time.
+    count: int
+    ahead: int
+    # How many ended before their time.
+    ended: int
+
+    def hand(self, task: Task) -> None:
+        """Hands them one more part."""
+
+    def handed(self) -> int:
+        """How many parts they have that aren't finished."""
+
+    def finished(self) -> List[Finished]:
+        """Waits until some parts are finished. Raises EngineError where the workers are gone."""
+
+
 @contextlib.contextmanager
-def workers(count: int, scheduler: Optional[str]) -> Iterator[Any]:
-    """A client of a scheduler, or of so many processes on this machine."""
-    for name, value in SETTINGS.items():
-        os.environ.setdefault(f"DASK_{name}", value)
-    dask: Any = importlib.import_module("distributed")
-    for name in ("distributed", "distributed.client", "tornado", "asyncio"):
-        logging.getLogger(name).setLevel(logging.CRITICAL)
-    if scheduler is not None:
-        try:
-            client = dask.Client(scheduler, timeout=5)
-        except (OSError, ValueError, asyncio.TimeoutError) as why:
-            raise EngineError(f"{scheduler}: no scheduler of Dask answers there") from why
-        with client:
-            yield client
-        return
-    # What the workers found needs no way by the scheduler, which is in this process.
-    with _cluster(dask, count) as cluster, dask.Client(cluster, direct_to_workers=True) as client:
-        yield client
+def workers(count: int, scheduler: Optional[str]) -> Iterator[Workers]:
+    """So many processes of this machine, or the workers of a scheduler."""
+    if scheduler is None:
+        from .processes import Processes
+
+        with contextlib.closing(Processes(count)) as processes:
+            yield processes
+    else:
+        from .cluster import connected
+
+        with connected(scheduler) as cluster:
+            yield cluster
 
 
-def _cluster(dask: Any, count: int) -> Any:
-    """So many processes on this machine."""
-    # Ctrl-C is this process's own matter: workers that were ended by it would only say so.
-    held = signal.signal(signal.SIGINT, signal.SIG_IGN)
-    try:
-        with warnings.catch_warnings():
-            # Another audit on this machine has the port of a page that nobody asked for.
-            warnings.filterwarnings("ignore", "Port .* is already in use")
-            return dask.LocalCluster(
-                n_workers=count, threads_per_worker=1, dashboard_address=None, silence_logs=logging.CRITICAL
-            )
-    finally:
-        signal.signal(signal.SIGINT, held)
-
-
-def run(client: Any, results: Results, stores: Sequence[Store], done: Dict[str, Done], told: Told) -> List[Lost]:
-    """Judges what isn't done yet. Answers the parts that no worker could finish."""
-    _await_worker(client)
-    waiting = importlib.import_module("distributed").as_completed(with_results=True, raise_errors=False)
-    handed: Dict[str, Tuple[str, int]] = {}
+def run(
+    workers: Workers, results: Results, stores: Sequence[Store], done: Dict[str, Done], told: Told,
+    check: Callable[[], None] = lambda: None,
+) -> List[Lost]:
+    """Judges what isn't done yet. Answers the parts that no worker could finish. Between two parts `check` may raise what
+    ends it."""
     lost: List[Lost] = []
 
-    def take(finished: Sequence[Tuple[Any, Any]]) -> None:
-        blocks = []
-        for future, content in finished:
-            path, part = handed.pop(future.key)
-            if future.cancelled():
-                raise EngineError("the scheduler went away")
-            why = future.exception()
-            if why is None:
-                blocks.append(Block(path, part, content))
-            else:
-                lost.append(Lost(path, part, f"{type(why).__name__}: {why}".splitlines()[0]))
+    def take(finished: Sequence[Finished]) -> None:
+        lost.extend(Lost(*each.task.name(), each.why) for each in finished if each.content is None)
+        blocks = [Block(*each.task.name(), each.content) for each in finished if each.content is not None]
         for added in results.add(blocks):
             told(added)
+        check()
 
-    workers, size = max(1, len(client.nthreads())), results.part_size()
-    ahead = min(AHEAD * workers, max(1, MOST_TILES // size))
-    most = {store.path: store.spread(workers) or ahead for store in stores}
-    for store, part, tiles in parts(stores, done, size):
-        while waiting.count() >= most[store.path]:
-            take(waiting.next_batch())
-        future = client.submit(judged_part, store, tiles, pure=False)
-        handed[future.key] = store.path, part
-        waiting.add(future)
-    for finished in waiting.batches():
-        take(finished)
+    results.drop_index()
+    size = results.part_size()
+    ahead = min(workers.ahead, max(1, MOST_TILES // size))
+    most = {store.path: store.spread(workers.count) or ahead for store in stores}
+    for task in parts(stores, done, size):
+        while workers.handed() >= most[task.store.path]:
+            take(workers.finished())
+        workers.hand(task)
+    while workers.handed():
+        take(workers.finished())
     return lost
 
 
-def parts(stores: Sequence[Store], done: Dict[str, Done], size: int) -> Iterator[Tuple[Store, int, Any]]:
+def parts(stores: Sequence[Store], done: Dict[str, Done], size: int) -> Iterator[Task]:
     """The parts that aren't done, in order."""
     for store in stores:
-        for part, tiles in enumerate(store.ranges(size)):
-            if part not in done[store.path].parts:
-                yield store, part, tiles
-
-
-def _await_worker(client: Any) -> None:
-    try:
-        client.wait_for_workers(1, timeout=30)
-    except asyncio.TimeoutError as why:
-        raise EngineError(f"{client.scheduler.address}: the scheduler has no workers") from why
+        try:
+            for part, tiles in enumerate(store.ranges(size)):
+                if part not in done[store.path].parts:
+                    yield Task(store, part, tiles)
+        except (OSError, sqlite3.Error) as why:
+            raise StoreError(f"{store.path}: {why}") from why

@@ -36,6 +36,12 @@ _INDEX = "create index if not exists tiles_not_accepted on tiles (verdict, cause
 # So many blocks are taken in at a time: SQLite has room for ten databases.
 _BLOCKS = 8
 
+# So many steps of SQLite take some milliseconds.
+_STEPS = 100_000
+
+# What SQLite's whole numbers hold at most. An archive may say that it has more tiles.
+_MOST = (1 << 63) - 1
+
 _ADD_CELLS = """insert into main.cells select * from {block}.cells where true
  on conflict do update set tiles = tiles + excluded.tiles, broken = broken + excluded.broken"""
 
@@ -78,15 +84,19 @@ class Results:
         folder.mkdir(parents=True, exist_ok=True)
         self.file = folder / "audit.sqlite"
         self._lock = _locked(folder)
-        if anew:
-            for end in ("", "-journal"):
-                Path(f"{self.file}{end}").unlink(missing_ok=True)
-        self.database = self._opened()
-        for number in range(_BLOCKS):
-            self.database.execute(f"attach ':memory:' as block{number}")
+        try:
+            if anew:
+                for end in ("", "-journal"):
+                    Path(f"{self.file}{end}").unlink(missing_ok=True)
+            self.database = self._opened()
+        except BaseException:
+            os.close(self._lock)
+            raise
 
     def _opened(self) -> sqlite3.Connection:
         database = sqlite3.connect(self.file, isolation_level=None)
+        # A call of SQLite's comes back to Python every while, so that Ctrl-C is heard.
+        database.set_progress_handler(lambda: None, _STEPS)
         try:
             [version] = database.execute("pragma user_version").fetchone()
             [tables] = database.execute("select count(*) from sqlite_master").fetchone()
@@ -95,6 +105,10 @@ class Results:
                 database.executescript(f"pragma page_size = 16384; begin; {SCHEMA} pragma user_version = {VERSION}; commit;")
             elif version != VERSION:
                 raise ResultsError(f"{self.file}: not made by this mvt-audit; --anew begins again")
+            for number in range(_BLOCKS):
+                database.execute(f"attach ':memory:' as block{number}")
+        except sqlite3.OperationalError:
+            raise  # such as that the disk is full
         except sqlite3.DatabaseError as why:
             raise ResultsError(f"{self.file}: {why}; --anew begins again") from why
         return database
@@ -114,7 +128,10 @@ class Results:
             raise ResultsError(f"changed since the audit was begun: {', '.join(changed)}; --anew begins again")
         if not known:
             now = time.strftime("%Y-%m-%d %H:%M:%S")
-            rows = [(store.path, store.kind, *state, size, now) for store, state in zip(stores, states)]
+            rows = [
+                (store.path, store.kind, min(state.tiles, _MOST), state.digest, size, now)
+                for store, state in zip(stores, states)
+            ]
             with _transaction(self.database):
                 self.database.executemany("insert into stores values (?, ?, ?, ?, ?, ?)", rows)
         return {path: self.done(path) for path in paths}
@@ -161,6 +178,11 @@ class Results:
             file.flush()
             self.database.execute(f"attach ? as {name}", (file.name,))
 
+    def broken(self) -> int:
+        """How many tiles are broken."""
+        [broken] = self.database.execute(f"select total(tiles) from counts where {BROKEN}").fetchone()
+        return int(broken)
+
     def counted(self, columns: str, where: str = "true") -> List[Any]:
         """The counts by some columns: these and the number of tiles, the largest number first."""
         order = f"group by {columns} order by sum(tiles) desc, {columns}"
@@ -178,7 +200,10 @@ class _transaction:
         return self.database
 
     def __exit__(self, kind: Any, *_: object) -> None:
-        self.database.execute("rollback" if kind else "commit")
+        if kind is None:
+            self.database.execute("commit")
+        elif self.database.in_transaction:  # else SQLite has rolled back what it couldn't write
+            self.database.execute("rollback")
 
 
 def _copy(database: sqlite3.Connection, name: str, block: Block) -> Added:

@@ -1,0 +1,33 @@
+"""What a command of this package does before anything else is imported, and so by what Python has at its start alone."""
+
+import os
+import sys
+
+_COMMANDS = ("mvt.audit", "mvt.page")
+
+# The folder that this package was imported from.
+_OWN = os.path.dirname(os.path.dirname(os.path.abspath(__file__)))
+
+
+def path_without_here() -> "list[str]":
+    """The folders that modules are imported from, without the current one, which may be a stranger's; last that of this
+    package, so that it is found where it is the current one itself."""
+    try:
+        here = os.path.realpath(os.getcwd())
+    except OSError:
+        here = ""
+    folders = [folder for folder in sys.path if folder and os.path.realpath(folder) != here]
+    return folders if _OWN in folders else [*folders, _OWN]
+
+
+def begin() -> None:
+    """Where `python3 -m mvt.audit` or `mvt.page` is being started, drops the current folder, which Python puts first of
+    those that modules are imported from. The audit's Ctrl-C ends Python as it ends other programs, until it heeds it."""
+    words = getattr(sys, "orig_argv", _COMMANDS)  # from Python 3.10 on
+    if sys.argv[:1] != ["-m"] or not set(words) & set(_COMMANDS):
+        return
+    sys.path[:] = path_without_here()
+    if "mvt.page" not in words:
+        import signal
+
+        signal.signal(signal.SIGINT, signal.SIG_DFL)
