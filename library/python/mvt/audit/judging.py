@@ -47,6 +47,7 @@ create table counts (
 create table note_counts (z integer, note text, tiles integer);
 {findings.BLOCK}
 create table cells (z integer, x integer, y integer, tiles integer, broken integer);
+create table beyond_counts (z integer, tiles integer);
 create table asked (tiles integer);
 """
 
@@ -201,6 +202,7 @@ class _Block:
         self._kinds: "Counter[Tuple[Any, ...]]" = Counter()
         self._notes: "Counter[Tuple[Any, ...]]" = Counter()
         self._found = findings.Found()
+        self._beyond: "Counter[int]" = Counter()
         self._cells: "Counter[Tuple[int, int, int]]" = Counter()
         self._broken: "Counter[Tuple[int, int, int]]" = Counter()
         # A text within a command isn't bound for each row.
@@ -220,9 +222,8 @@ class _Block:
             self._tiles += tiles * rows
         for row in others:
             self._count(row)
-        _add_cells(self._cells, plain)
-        _add_cells(self._cells, others)
-        _add_cells(self._broken, (row for row in others if row[_VERDICT] in BROKEN_VERDICTS))
+        self._count_places(plain)
+        self._count_places(others)
         plain.clear()
         others.clear()
 
@@ -237,6 +238,22 @@ class _Block:
         if row[_FINDINGS]:
             self._found.add(Address(*row[:_VERDICT]), row[_LINT])
 
+    def _count_places(self, rows: Iterable[Tuple[Any, ...]]) -> None:
+        """Counts tiles of deep zooms by the squares that they lie in, a run by that of its first tile; and those at places
+        that their zoom doesn't have."""
+        for row in rows:
+            z, x, y = row[:3]
+            if z is None:
+                continue
+            if min(z, x, y) < 0 or x >> z or y >> z:
+                self._beyond[z] += row[_TILES]
+            elif z > SQUARES:
+                cell = z, x >> z - SQUARES, y >> z - SQUARES
+                self._cells[cell] += row[_TILES]
+                # In rows of which nothing else is said there stands a number.
+                if row[_VERDICT] in BROKEN_VERDICTS:
+                    self._broken[cell] += row[_TILES]
+
     def file(self) -> bytes:
         """All of it, as the bytes of a file."""
         self.write()
@@ -244,20 +261,13 @@ class _Block:
         kinds, notes, cells = self._kinds.items(), self._notes.items(), self._cells.items()
         database.executemany("insert into counts values (?, ?, ?, ?, ?, ?, ?)", ((*kind, tiles) for kind, tiles in kinds))
         database.executemany("insert into note_counts values (?, ?, ?)", ((*note, tiles) for note, tiles in notes))
+        database.executemany("insert into beyond_counts values (?, ?)", self._beyond.items())
         self._found.write(database)
         rows = ((*cell, tiles, self._broken[cell]) for cell, tiles in cells)
         database.executemany("insert into cells values (?, ?, ?, ?, ?)", rows)
         database.execute("insert into asked values (?)", (self._tiles + self.absent,))
         database.execute("commit")
         return _file_of(database)
-
-
-def _add_cells(counted: "Counter[Tuple[int, int, int]]", rows: Iterable[Tuple[Any, ...]]) -> None:
-    """Counts tiles of deep zooms by the squares that they lie in, a run by that of its first tile."""
-    for row in rows:
-        z = row[0]
-        if z is not None and z > SQUARES:
-            counted[z, row[1] >> z - SQUARES, row[2] >> z - SQUARES] += row[_TILES]
 
 
 def _file_of(database: sqlite3.Connection) -> bytes:

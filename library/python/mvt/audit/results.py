@@ -24,6 +24,7 @@ create table counts (
   store text not null, z integer, verdict text not null, cause integer, cause_name text, layer_name text,
   has_findings integer, tiles integer not null);
 create table note_counts (store text not null, z integer, note text not null, tiles integer not null);
+create table beyond_counts (store text not null, z integer, tiles integer not null);
 {findings.TABLES}
 create table cells (
   z integer, x integer, y integer, tiles integer not null, broken integer not null, primary key (z, x, y)) without rowid;
@@ -214,6 +215,7 @@ def _copy(database: sqlite3.Connection, name: str, block: Block) -> Added:
     _count(database, name, "counts", COUNTED, block.path)
     _count(database, name, "note_counts", NOTED, block.path)
     _count(database, name, "finding_counts", FOUND, block.path)
+    _count(database, name, "beyond_counts", ("z",), block.path)
     findings.add_examples(database, name, block.path)
     database.execute(_ADD_CELLS.format(block=name))
     database.execute("insert into parts values (?, ?, ?)", (block.path, block.part, tiles))

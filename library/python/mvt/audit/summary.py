@@ -2,13 +2,14 @@
 
 from typing import Any, Dict, List, NamedTuple, Sequence, Tuple
 
+from .._shown import shown
 from . import findings
 from .engine import Lost
 from .judging import ACCEPTED, BROKEN, EMPTY, NOT_UNPACKED, REFUSED, UNREAD, VERDICTS
 from .results import Results
 
-# Of long lists the rest is counted.
-SHOWN = 6
+# Of long lists the rest is counted, and of long paths the end is left out.
+SHOWN, _PATH = 6, 1000
 
 
 class Timed(NamedTuple):
@@ -32,6 +33,7 @@ def told(results: Results, timed: Timed, lost: Sequence[Lost]) -> Dict[str, Any]
     ).fetchall()
     stores = results.database.execute("select path, kind, tiles from stores order by path").fetchall()
     stumbled = _listed(results, ("z",), "has_findings")
+    beyond = results.database.execute("select z, sum(tiles) from beyond_counts group by z order by sum(tiles) desc, z").fetchall()
     return {
         "stores": [{"path": path, "kind": kind, "tiles": tiles} for path, kind, tiles in stores],
         "tiles": sum(verdicts.values()),
@@ -43,6 +45,7 @@ def told(results: Results, timed: Timed, lost: Sequence[Lost]) -> Dict[str, Any]
         "with_findings": sum(each["tiles"] for each in stumbled),
         "findings": [kind.told() for kind in findings.kinds(results.database)],
         "finding_zooms": stumbled,
+        "beyond_zooms": [{"z": z, "tiles": tiles} for z, tiles in beyond],
         "unfinished": [part._asdict() for part in lost],
         "seconds": {"start": round(timed.start, 2), "work": round(timed.work, 2), "client": round(timed.client, 2)},
         "tiles_this_time": timed.tiles,
@@ -71,11 +74,11 @@ def _few(counts: Sequence[Tuple[str, int]]) -> str:
 
 
 def lines(found: Dict[str, Any], files: Sequence[str]) -> List[str]:
-    """The eleven lines, or twelve."""
+    """The eleven lines, and others where there is something to say."""
     verdicts, seconds = found["verdicts"], found["seconds"]
-    stores = ", ".join(store["path"] for store in found["stores"][:3])
+    stores = ", ".join(shown(store["path"], _PATH) for store in found["stores"][:3])
     more = len(found["stores"]) - 3
-    layers = [(each["layer_name"], each["tiles"]) for each in found["layers"]]
+    layers = [(shown(each["layer_name"]), each["tiles"]) for each in found["layers"]]
     stumbled = _few([(each["finding"], each["tiles"]) for each in found["findings"]])
     rows = [
         (found["tiles"], "tiles", stores + (f" and {more} more" if more > 0 else "")),
@@ -92,9 +95,10 @@ def lines(found: Dict[str, Any], files: Sequence[str]) -> List[str]:
         *(f"{count:>{width},} {name}{': ' + of if of else ''}" for count, name, of in rows),
         f"broken, by zoom: {_few(_zooms(found['zooms'])) or '-'}; by layer: {_few(layers) or '-'}",
         *_stumbled(found),
+        *_beyond(found),
         f"{found['tiles_this_time']:,} tiles in {seconds['work']:.1f} s, {found['tiles_a_second']:,} a second;"
         f" the workers started in {seconds['start']:.1f} s",
-        f"written: {', '.join(files)}",
+        f"written: {', '.join(shown(file, _PATH) for file in files)}",
     ]
 
 
@@ -110,5 +114,19 @@ def _stumbled(found: Dict[str, Any]) -> List[str]:
     return [f"with findings, by zoom: {_few(_zooms(found['finding_zooms']))}; such as {', '.join(examples)}"]
 
 
+def _beyond(found: Dict[str, Any]) -> List[str]:
+    """How many tiles stand where no tile can; nothing where there is none."""
+    tiles = sum(each["tiles"] for each in found["beyond_zooms"])
+    if not tiles:
+        return []
+    return [f"{misplaced(tiles)}, by zoom: {_few(_zooms(found['beyond_zooms']))}"]
+
+
+def misplaced(tiles: int) -> str:
+    """Of tiles such as 0/1/0."""
+    one, many = "tile stands at a place that its zoom", "tiles stand at places that their zoom"
+    return f"{tiles:,} {one if tiles == 1 else many} doesn't have"
+
+
 def _address(example: Dict[str, Any]) -> str:
-    return str(example["name"]) if example["z"] is None else f"{example['z']}/{example['x']}/{example['y']}"
+    return shown(str(example["name"])) if example["z"] is None else f"{example['z']}/{example['x']}/{example['y']}"

@@ -56,6 +56,9 @@ class Table(NamedTuple):
     bits: str
 
 
+# Places that their zoom has: others are on no map.
+_IN_ZOOM = "x between 0 and (1 << z - ({bits})) - 1 and y between 0 and (1 << z - ({bits})) - 1"
+
 _TILES = Table("tiles", "tiles", f"tiles * ({BROKEN})", "0")
 _CELLS = Table("cells", "tiles", "broken", f"z - {SQUARES}")
 
@@ -72,7 +75,7 @@ def _boxes(results: Results, table: Table, zooms: List[int]) -> Dict[int, Box]:
         return found
     query = (
         f"select z, {table.bits}, min(x), max(x), min(y), max(y) from {table.name}"
-        f" where x is not null and z in ({', '.join(map(str, zooms))}) group by z"
+        f" where {_IN_ZOOM.format(bits=table.bits)} and z in ({', '.join(map(str, zooms))}) group by z"
     )
     for z, bits, left, right, top, bottom in results.database.execute(query):
         side = max(right - left, bottom - top) + 1
@@ -92,7 +95,7 @@ def _cells(results: Results, table: Table, boxes: Dict[int, Box]) -> Dict[int, D
     query = (
         f"with shifts(z, shift) as (values {shifts})"
         f" select z, x >> shift - ({table.bits}), y >> shift - ({table.bits}), total({table.broken}) / total({table.tiles})"
-        f" from {table.name} join shifts using (z) where x is not null group by 1, 2, 3"
+        f" from {table.name} join shifts using (z) where {_IN_ZOOM.format(bits=table.bits)} group by 1, 2, 3"
     )
     for z, x, y, share in results.database.execute(query):
         cells[z][x - (boxes[z].left >> boxes[z].shift), y - (boxes[z].top >> boxes[z].shift)] = share

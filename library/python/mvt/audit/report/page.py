@@ -9,6 +9,7 @@ from urllib.parse import quote
 from ..judging import ACCEPTED, BROKEN, EMPTY, NOT_UNPACKED, REFUSED, UNREAD, VERDICTS
 from ..results import Results
 from ..stores import Store
+from ..summary import misplaced
 from . import pictures
 from .examples import Example, examples
 from .maps import maps
@@ -60,7 +61,7 @@ def _head(found: Dict[str, Any]) -> str:
     stores = ", ".join(f"<code>{escape(store['path'])}</code>" for store in found["stores"])
     when = time.strftime("%Y-%m-%d %H:%M")
     verdict = f'<p class="quiet">{stores}, {when}</p><p class="verdict {"bad" if broken else "good"}">{said}.</p>'
-    return verdict + _head_of_findings(found)
+    return verdict + _head_of_findings(found) + _head_of_places(found)
 
 
 def _head_of_findings(found: Dict[str, Any]) -> str:
@@ -68,6 +69,11 @@ def _head_of_findings(found: Dict[str, Any]) -> str:
         return ""
     tiles = counted(found["with_findings"], "good tile")
     return f'<p>Viewers may stumble over <a href="#findings">{tiles}</a>; no rule is broken there.</p>'
+
+
+def _head_of_places(found: Dict[str, Any]) -> str:
+    tiles = sum(each["tiles"] for each in found["beyond_zooms"])
+    return f"<p>{misplaced(tiles)}; they are on no map.</p>" if tiles else ""
 
 
 def _counts(results: Results, found: Dict[str, Any]) -> str:
