@@ -48,11 +48,21 @@ class Signals:
             raise Ended
 
 
+def hold_places() -> None:
+    """Has no file that is opened later take the place of an input, an output or errors that are closed."""
+    nowhere = os.open(os.devnull, os.O_RDWR)
+    while nowhere <= 2:
+        nowhere = os.dup(nowhere)
+    os.close(nowhere)
+
+
 def say(line: str) -> None:
     """A line on standard error, if anybody hears it."""
+    if sys.stderr is None:
+        return
     try:
         print(f"mvt-audit: {shown(line, _LONGEST)}", file=sys.stderr, flush=True)
-    except (OSError, ValueError, AttributeError):
+    except OSError:
         _leave(2)
 
 

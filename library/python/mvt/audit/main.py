@@ -11,7 +11,7 @@ from typing import Any, Dict, List, NoReturn, Optional, Sequence, Tuple
 
 from .._shown import shown
 from . import engine, report, serverwords, summary
-from .ending import Signals, say, told, write
+from .ending import Signals, hold_places, say, told, write
 from .progress import Progress
 from .results import Results, ResultsError
 from .stores import Options, State, Store, StoreError, found, opened
@@ -126,6 +126,7 @@ def main(words: Optional[Sequence[str]] = None) -> int:
     signals = Signals()
     try:
         signals.heed()
+        hold_places()
         return _audit(_parser().parse_args(serverwords.words_of(words)), signals)
     except BaseException as why:
         if isinstance(why, SystemExit):

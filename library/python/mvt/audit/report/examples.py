@@ -57,8 +57,8 @@ def _example(stores: Dict[str, Store], store: str, row: Row) -> Example:
     link = stores[store].link(address)
     try:
         stored = stores[store].tile(address)
-    except OSError as why:
-        return Example(store, row, None, why.strerror or str(why), link)
+    except Exception as why:  # by a store of another package too
+        return Example(store, row, None, getattr(why, "strerror", None) or str(why) or type(why).__name__, link)
     try:
         tile = unpacked(stored)
     except NotUnpacked:
