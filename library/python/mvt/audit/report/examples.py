@@ -1,5 +1,6 @@
 """The worst tiles of each cause: those at the lowest zooms, which most people see, and the largest of them."""
 
+import os
 from typing import Any, Dict, List, NamedTuple, Optional
 
 import mvt
@@ -33,6 +34,16 @@ class Example(NamedTuple):
         return None
 
 
+def leads_out(store: Store, address: Address) -> bool:
+    """Whether a tile of a folder or a list is a link to a file elsewhere, which needn't be for those who read the page."""
+    if store.kind not in ("folder", "list"):
+        return False
+    folder = os.path.realpath(store.path if store.kind == "folder" else os.path.dirname(store.path))
+    file = os.path.join(folder, str(address))
+    is_linked = store.kind == "folder" or os.path.islink(file)
+    return is_linked and os.path.commonpath([os.path.realpath(file), folder]) != folder
+
+
 def examples(results: Results, stores: Dict[str, Store], verdict: str, cause: Optional[int]) -> List[Example]:
     """The worst of a kind, of different layers where there are such."""
     query = (
@@ -56,6 +67,8 @@ def _example(stores: Dict[str, Store], store: str, row: Row) -> Example:
     address = Address(row.z, row.x, row.y, row.name)
     link = stores[store].link(address)
     try:
+        if leads_out(stores[store], address):
+            return Example(store, row, None, "a link that leads out of the store; its bytes aren't shown", link)
         stored = stores[store].tile(address)
     except Exception as why:  # by a store of another package too
         return Example(store, row, None, getattr(why, "strerror", None) or str(why) or type(why).__name__, link)

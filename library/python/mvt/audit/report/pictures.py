@@ -16,6 +16,8 @@ MOST_OF_TILE = 2_000_000
 SECONDS = 2.0
 
 _RED = "#e3000f"
+# The circle's radius, as a part of the picture's side.
+_RING = 0.03
 _TITLE = re.compile(r"<title>[^<]*</title>\n?")
 
 
@@ -93,33 +95,70 @@ def _drawn(tile: bytes, fault: mvt.Refused) -> Tuple[List[Path], int, bool]:
     return paths(geometry(tile, feature)), _extent(tile, layer), number_in(tile, feature, KIND) == 1
 
 
-def _ring(point: Point, extent: int) -> str:
+def _ring(point: Point, extent: int, side: float) -> str:
     """A circle round a place, which may be too small to be seen."""
-    at = f'cx="{point[0]}" cy="{point[1]}" r="{extent * 0.03:.1f}" fill="none"'
-    return f'<circle {at} stroke="#fff" stroke-width="1.4%"/><circle {at} stroke="{_RED}" stroke-width=".7%"/>'
+    at = f'cx="{point[0]}" cy="{point[1]}" r="{extent * side * _RING:.1f}" fill="none"'
+    white, red = f"{1.4 * side:g}%", f"{0.7 * side:g}%"
+    return f'<circle {at} stroke="#fff" stroke-width="{white}"/><circle {at} stroke="{_RED}" stroke-width="{red}"/>'
+
+
+class _View(NamedTuple):
+    """A square of the picture, where the tile reaches from 0 to 1."""
+
+    left: float
+    top: float
+    side: float
+
+    def is_tile(self) -> bool:
+        return self == _TILE
+
+
+_TILE = _View(0, 0, 1)
+
+
+def _view(drawn: List[Path], place: Optional[Point], extent: int) -> _View:
+    """The tile, or, where the feature or the circle round the place goes beyond it, a square that has all of them."""
+    points = [(x / extent, y / extent) for path in drawn for x, y in path.points]
+    if place is not None:
+        points += [(place[0] / extent + by, place[1] / extent + by) for by in (-_RING, _RING)]
+    lows, highs = ([edge(each[axis] for each in [*points, (0, 0), (1, 1)]) for axis in (0, 1)] for edge in (min, max))
+    side = max(high - low for low, high in zip(lows, highs))
+    if side <= 1:
+        return _TILE
+    # Room for the strokes and the circle, which grow with the square.
+    room = side * (1 + 4 * _RING)
+    left, top = ((low + high - room) / 2 for low, high in zip(lows, highs))
+    return _View(left, top, room)
 
 
 def of_tile(tile: bytes, fault: mvt.Refused) -> Optional[Picture]:
-    """The whole tile: what is good of it, and the broken feature in red, with a circle round the place."""
+    """The whole tile: what is good of it, and the broken feature in red, with a circle round the place; with the tile's
+    edge where the feature goes beyond it."""
     good, dropped = mended(tile) if len(tile) <= MOST_OF_TILE else (None, 0)
     drawn, extent, _ = _drawn(tile, fault)
-    parts = [] if good is None else [_drawing(good)]
-    over = "".join(_line(path, _RED, ".5%") for path in drawn)
     found = position(drawn, fault.at)
-    if found is not None:
-        over += _ring(found[0].points[found[1]], extent)
+    place = None if found is None else found[0].points[found[1]]
+    view = _view(drawn, place, extent) if drawn else _TILE
+    over = "".join(_line(path, _RED, f"{0.5 * view.side:g}%") for path in drawn)
+    if place is not None:
+        over += _ring(place, extent, view.side)
+    parts = [] if good is None else [f'<svg width="1" height="1">{_drawing(good)}</svg>']
+    if not view.is_tile():
+        parts.append(f'<path fill="none" stroke="#888" stroke-width="{0.004 * view.side:g}" d="M0 0h1v1h-1z"/>')
     if over:
-        parts.append(f'<svg viewBox="0 0 {extent} {extent}">{over}</svg>')
-    svg = _document("".join(parts))
+        parts.append(f'<svg width="1" height="1" overflow="visible" viewBox="0 0 {extent} {extent}">{over}</svg>')
+    svg = _document("".join(parts), f"{view.left:g} {view.top:g} {view.side:g} {view.side:g}")
     if len(svg) > MOST or "<path" not in svg:
         return None
-    return Picture(svg, _said(good is None, dropped, bool(over)))
+    return Picture(svg, _said(good is None, dropped, bool(over), not view.is_tile()))
 
 
-def _said(is_alone: bool, dropped: int, is_drawn: bool) -> str:
+def _said(is_alone: bool, dropped: int, is_drawn: bool, is_beyond: bool) -> str:
     if is_alone:
         return "The broken feature alone: the tile has too much else."
     red = "the broken feature in red" if is_drawn else "without what is broken"
+    if is_beyond:
+        red += ", which goes beyond the tile's edge"
     if dropped > 1:
         return f"The tile, {red}; {dropped:,} broken parts are left out of the rest."
     return f"The tile, {red}."

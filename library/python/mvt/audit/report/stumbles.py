@@ -8,7 +8,8 @@ import mvt
 from ..findings import Kind, kinds
 from ..results import Results
 from ..stores import Store
-from ..unpacking import NotUnpacked, unpacked
+from ..unpacking import unpacked
+from .examples import leads_out
 from .pieces import Zooms, command, heading
 from .words import counted, stumbling
 
@@ -46,10 +47,12 @@ def _within(kind: Kind, store: Store) -> str:
     """The layer's name and the feature's id; nothing where the tile can't be read any more, or has changed since."""
     index, *within = [int(word) for word in kind.lint.split() if word.isdigit()]
     try:
+        if leads_out(store, kind.address):
+            return ""
         rows = mvt.rows(unpacked(store.tile(kind.address)))
         layer = rows.layers[index]
         feature = rows.features[layer.features.start + within[0]] if within else None
-    except (OSError, NotUnpacked, mvt.MvtError, IndexError, MemoryError):
+    except Exception:  # by a store of another package too
         return ""
     told = f", layer {index} “{rows.text(layer.name)}”"
     if feature is None:
