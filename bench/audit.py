@@ -6,9 +6,8 @@ TILES is a folder that examples/producers/gdal and tilemaker filled. Of its tile
 turn, compressed by gzip, as caches are, until there are so many: 100,000 and 1,000,000 where no count is given. MVT is the
 program. The module mvt has to be found (PYTHONPATH). Peaks of memory are of the client and of its largest
 worker, seen twenty times a second. The microseconds of a processor are those that the client says it took from the first
-tile to the last, Dask's scheduler included; then these without what it takes anyway each second for four workers that do
-nothing; and those of all workers together, without what they take for one tile. A client feeds as many workers as take the
-time that a tile takes it itself."""
+tile to the last, and those of all workers together, without what they take for one tile. A client feeds as many workers as
+take the time that a tile takes it itself."""
 
 import gzip
 import json
@@ -18,11 +17,12 @@ import subprocess
 import sys
 import tempfile
 import time
+from contextlib import closing
 from pathlib import Path
 
 import psutil
 from mvt._mvt import answer, looked_at
-from mvt.audit import engine
+from mvt.audit import engine, processes
 from mvt.audit.judging import judged_part
 from mvt.audit.results import Block, Results
 from mvt.audit.stores import opened
@@ -145,7 +145,7 @@ def ready_part(store, _):
 
 
 def fed(tiles, size, parts):
-    """Microseconds of a processor that the client takes for a tile of ready parts, from the scheduler to the index."""
+    """Microseconds of a processor that the client takes for a tile of ready parts, from the pipes to the index."""
     with tempfile.TemporaryDirectory() as room:
         make(Path(room, "a.pmtiles"), tiles, size)
         store = opened(str(Path(room, "a.pmtiles")))
@@ -154,25 +154,16 @@ def fed(tiles, size, parts):
         Path(ready.path).write_bytes(judged_part(store, next(store.ranges(size))))
         results = Results(Path(room))
         done = results.begin([ready], [state], size)
-        engine.judged_part = ready_part
-        with engine.workers(WORKERS, None) as client:
+        with closing(processes.Processes(WORKERS, ready_part)) as workers:
             begun = time.process_time()
-            engine.run(client, results, [ready], done, lambda added: None)
+            engine.run(workers, results, [ready], done, lambda added: None)
             results.make_index()
             spent = time.process_time() - begun
-        engine.judged_part = judged_part
         results.close()
     return 1e6 * spent / size / parts
 
 
-def at_rest():
-    """Seconds of a processor that the client takes each second, with workers that do nothing."""
-    with engine.workers(WORKERS, None):
-        time.sleep(2)
-        return spent_by(lambda: time.sleep(5)) / 5
-
-
-def measured(tiles, count, name, rest):
+def measured(tiles, count, name):
     """A row of the table. What the workers' beginning and end take is measured with one tile, and taken off."""
     with tempfile.TemporaryDirectory() as room:
         make(Path(room, name), tiles, 1)
@@ -182,9 +173,8 @@ def measured(tiles, count, name, rest):
         found, seconds, seen, spent = audited(Path(room, name), room)
     seconds_of = found["seconds"]
     client, workers = 1e6 * seconds_of["client"] / count, 1e6 * (spent - none) / count
-    own = client - 1e6 * rest * seconds_of["work"] / count
     return (f"| {count:,} | `mvt-audit {name}`, {WORKERS} workers | {seconds:.1f} | {seconds_of['start']:.1f} | {seconds_of['work']:.1f} |"
-            f" {found['tiles_a_second']:,} | {client:.2f}, {own:.2f} and {workers:.0f} | {workers / own:.0f} | {seen.client} and {seen.worker} |"
+            f" {found['tiles_a_second']:,} | {client:.2f} and {workers:.0f} | {workers / client:.0f} | {seen.client} and {seen.worker} |"
             f" {found['verdicts']['refused']:,} |")
 
 
@@ -237,19 +227,17 @@ def main():
     counts = [int(word) for word in sys.argv[3:]] or [100_000, 1_000_000]
     mean = sum(map(len, tiles)) / len(tiles)
     print(f"{len(tiles)} tiles of {mean:,.0f} bytes on average, in turn; load {os.getloadavg()[0]:.1f}\n")
-    print("The best of parts that are judged and added by one process, without Dask:")
+    print("The best of parts that are judged and added by one process:")
     for name in NAMES:
         print(alone(tiles, name), flush=True)
     for size, parts in ((20_000, 50), (50_000, 40)):
         best = min(fed(tiles, size, parts) for _ in range(3))
-        print(f"{parts} ready parts of {size:,} tiles: the client {best:.2f} µs a tile, with Dask's scheduler and the index", flush=True)
-    rest = at_rest()
-    print(f"\nWith {WORKERS} workers that do nothing the client takes {1000 * rest:.0f} ms of a processor a second.\n")
-    print("| Tiles | Program | Seconds | The start | Judging | Tiles a second | Processor, µs a tile | Workers a client can feed | Peak, MB | Refused |")
+        print(f"{parts} ready parts of {size:,} tiles: the client {best:.2f} µs a tile, with the pipes and the index", flush=True)
+    print("\n| Tiles | Program | Seconds | The start | Judging | Tiles a second | Processor, µs a tile | Workers a client can feed | Peak, MB | Refused |")
     print("|---|---|---|---|---|---|---|---|---|---|")
     for count in counts:
         for name in NAMES:
-            print(measured(tiles, count, name, rest), flush=True)
+            print(measured(tiles, count, name), flush=True)
         if count <= FILES:
             with tempfile.TemporaryDirectory() as room:
                 seconds, spent, refused = checked(sys.argv[2], tiles, count, room)
