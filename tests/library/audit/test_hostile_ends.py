@@ -1,15 +1,20 @@
 """How the command ends when something goes wrong: a status of its own and one line, whatever it is."""
 
 import os
+import pty
 import resource
 import shutil
+import signal
 import sqlite3
 import subprocess
+import threading
+import time
 from contextlib import closing
 
 import pytest
-from common import audit, json, rows, start
-from processes import until
+from common import AUDIT, audit, json, rows, start
+from mvt.audit.ending import Signals
+from mvt.audit.results import Results
 
 
 def one_line(error):
@@ -232,19 +237,27 @@ def test_an_option_with_controls(store):
     assert "\x1b" not in error and r"\x1b[2J" in error
 
 
-def test_a_terminal_without_tqdm(large, tmp_path):
-    import pty
-
+@pytest.fixture
+def without_extras(tmp_path):
+    """As if neither tqdm nor Dask were there."""
     (tmp_path / "without").mkdir()
     (tmp_path / "without" / "sitecustomize.py").write_text(
         "import importlib.util as util\nfound = util.find_spec\n"
-        "util.find_spec = lambda name, *more: None if name == 'tqdm' else found(name, *more)\n")
-    env = {**os.environ, "PYTHONPATH": f"{tmp_path / 'without'}{os.pathsep}{os.environ.get('PYTHONPATH', '')}"}
+        "util.find_spec = lambda name, *more: None if name in ('tqdm', 'distributed') else found(name, *more)\n")
+    return {**os.environ, "PYTHONPATH": f"{tmp_path / 'without'}{os.pathsep}{os.environ.get('PYTHONPATH', '')}"}
+
+
+def test_a_scheduler_without_dask(store, tmp_path, without_extras):
+    error = fails(3, store, "--into", tmp_path / "audit", "--scheduler", "tcp://127.0.0.1:1", env=without_extras)
+    assert "--scheduler wants Dask: pip install distributed, or Debian's python3-distributed" in error
+
+
+def test_a_terminal_without_tqdm(large, tmp_path, without_extras):
     ours, theirs = pty.openpty()
-    run = start_on(theirs, large, "--into", tmp_path / "audit", "--part", 200, env=env)
+    run = subprocess.Popen([*AUDIT, large, "--into", tmp_path / "audit", "--part", "200"], stdout=subprocess.DEVNULL,
+                           stderr=theirs, env=without_extras)
     os.close(theirs)
     shown = b""
-    until(lambda: run.poll() is not None or not shown.endswith(b"\n"), 60)
     while True:
         try:
             more = os.read(ours, 10_000)
@@ -261,7 +274,34 @@ def test_a_terminal_without_tqdm(large, tmp_path):
     assert b" broken" in shown
 
 
-def start_on(terminal, *words, **how):
-    from common import AUDIT
+@pytest.fixture
+def signals():
+    """Signals that this process heeds as the command does."""
+    before = {number: signal.getsignal(number) for number in (signal.SIGINT, signal.SIGTERM)}
+    yield Signals()
+    for number, handler in before.items():
+        signal.signal(number, handler)
 
-    return subprocess.Popen([*AUDIT, *map(str, words)], stdout=subprocess.DEVNULL, stderr=terminal, **how)
+
+def test_a_signal_in_a_long_call_of_sqlite(tmp_path, signals):
+    with closing(Results(tmp_path)) as results:
+        signals.heed()
+        timer = threading.Timer(0.3, os.kill, [os.getpid(), signal.SIGTERM])
+        timer.start()
+        begun = time.monotonic()
+        with pytest.raises((sqlite3.OperationalError, KeyboardInterrupt)):
+            results.database.execute("with recursive c(x) as (select 1 union all select x + 1 from c) select sum(x) from c").fetchall()
+        assert time.monotonic() - begun < 20
+        assert (signals.number, signals.status()) == (signal.SIGTERM, 143)
+        with pytest.raises(KeyboardInterrupt):
+            signals.check()
+        timer.join()
+
+
+def test_only_the_first_signal_is_raised(signals):
+    signals.heed()
+    with pytest.raises(KeyboardInterrupt):
+        signal.raise_signal(signal.SIGINT)
+    signal.raise_signal(signal.SIGINT)
+    signal.raise_signal(signal.SIGTERM)
+    assert signals.status() == 130
