@@ -23,8 +23,10 @@ statistics string struct subprocess tempfile textwrap threading token tokenize t
 unicodedata urllib usercustomize uuid warnings weakref zlib zstandard""".split()
 
 # What `python3 -m` itself imports, from the current folder first, before any module that it is asked for.
-IMPORTED_BY_PYTHON = {"runpy", "importlib", "types", "io", "warnings", "contextlib", "collections", "functools", "operator",
-                      "heapq", "weakref", "threading", "typing", "re", "enum", "ast"}
+IMPORTED_BY_PYTHON = {"collections", "contextlib", "functools", "importlib", "keyword", "operator", "reprlib", "runpy", "types",
+                      "warnings"}
+if sys.version_info < (3, 11):
+    IMPORTED_BY_PYTHON |= {"enum", "heapq", "pkgutil", "re", "typing", "weakref"}
 
 
 def strangers(folder, names):

@@ -37,8 +37,8 @@ _MOST_KEPT, _SMALL = 1000, 400
 # The table of tiles, and what is counted of them, as the results and each block have it.
 TILES = """
 create table tiles (
-  store text not null, z integer, x integer, y integer, name text, tiles integer not null, verdict text not null, bytes integer,
-  layer integer, layer_name text, feature integer, feature_id text, place integer, cause integer, cause_name text,
+  store text not null, z integer, x integer, y integer, name text, tiles integer not null, verdict text not null,
+  bytes integer, layer integer, layer_name text, feature integer, feature_id text, place integer, cause integer, cause_name text,
   notes text not null, findings integer, lint text not null);
 """
 _BLOCK = f"""{TILES}

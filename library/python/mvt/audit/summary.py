@@ -33,7 +33,9 @@ def told(results: Results, timed: Timed, lost: Sequence[Lost]) -> Dict[str, Any]
     ).fetchall()
     stores = results.database.execute("select path, kind, tiles from stores order by path").fetchall()
     stumbled = _listed(results, ("z",), "has_findings")
-    beyond = results.database.execute("select z, sum(tiles) from beyond_counts group by z order by sum(tiles) desc, z").fetchall()
+    beyond = results.database.execute(
+        "select z, sum(tiles) from beyond_counts group by z order by sum(tiles) desc, z"
+    ).fetchall()
     return {
         "stores": [{"path": path, "kind": kind, "tiles": tiles} for path, kind, tiles in stores],
         "tiles": sum(verdicts.values()),
