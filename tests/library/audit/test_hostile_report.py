@@ -100,6 +100,14 @@ def test_a_feature_beyond_the_tile_is_whole_and_the_tile_has_its_edge(x, y):
         assert low < each < low + wide
 
 
+def test_the_feature_is_red_whatever_style_the_tile_has():
+    svg = picture_of(standing_line(2000, 1000)).svg
+    assert "path{fill:none;stroke:currentColor" in svg
+    assert re.search('<path style="fill:none;stroke:#e3000f;stroke-width:0.5%" d="M2000 1000 1990 1020', svg)
+
+
 def test_the_circle_round_a_place_is_whole():
-    left, top, wide, _ = box_of(picture_of(standing_line(4090, 2000)).svg)
-    assert left + wide > 4080 / 4096 + 0.03 * wide
+    picture = picture_of(standing_line(4095, 2000))
+    left, top, wide, _ = box_of(picture.svg)
+    assert left + wide > 4085 / 4096 + 0.03 * wide
+    assert picture.told == "The tile, the broken feature in red."

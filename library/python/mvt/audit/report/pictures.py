@@ -79,7 +79,12 @@ def _line(path: Path, colour: str, width: str) -> str:
     points = " ".join(f"{x} {y}" for x, y in path.points)
     if len(path.points) == 1:
         points += " l0 0"
-    return f'<path fill="none" stroke="{colour}" stroke-width="{width}" d="M{points}{"z" if path.closed else ""}"/>'
+    return _stroke(f"M{points}{'z' if path.closed else ''}", colour, width)
+
+
+def _stroke(course: str, colour: str, width: str) -> str:
+    """A line in a style of its own, which stands above that of the tile's picture."""
+    return f'<path style="fill:none;stroke:{colour};stroke-width:{width}" d="{course}"/>'
 
 
 def _extent(tile: bytes, layer: Field) -> int:
@@ -144,13 +149,14 @@ def of_tile(tile: bytes, fault: mvt.Refused) -> Optional[Picture]:
         over += _ring(place, extent, view.side)
     parts = [] if good is None else [f'<svg width="1" height="1">{_drawing(good)}</svg>']
     if not view.is_tile():
-        parts.append(f'<path fill="none" stroke="#888" stroke-width="{0.004 * view.side:g}" d="M0 0h1v1h-1z"/>')
+        parts.append(_stroke("M0 0h1v1h-1z", "#888", f"{0.004 * view.side:g}"))
     if over:
         parts.append(f'<svg width="1" height="1" overflow="visible" viewBox="0 0 {extent} {extent}">{over}</svg>')
     svg = _document("".join(parts), f"{view.left:g} {view.top:g} {view.side:g} {view.side:g}")
     if len(svg) > MOST or "<path" not in svg:
         return None
-    return Picture(svg, _said(good is None, dropped, bool(over), not view.is_tile()))
+    is_beyond = any(not 0 <= number <= extent for path in drawn for point in path.points for number in point)
+    return Picture(svg, _said(good is None, dropped, bool(over), is_beyond))
 
 
 def _said(is_alone: bool, dropped: int, is_drawn: bool, is_beyond: bool) -> str:
@@ -205,5 +211,5 @@ def _arrows(path: Path, near: List[Point], whole: float) -> str:
         x, y = (b[0] - a[0]) / length * size, (b[1] - a[1]) / length * size
         tip = (a[0] + b[0]) / 2 + x, (a[1] + b[1]) / 2 + y
         corners = (tip, (tip[0] - 2 * x - y, tip[1] - 2 * y + x), (tip[0] - 2 * x + y, tip[1] - 2 * y - x))
-        drawn.append(f'<path fill="{_RED}" d="M{" ".join(f"{c[0]:g} {c[1]:g}" for c in corners)}z"/>')
+        drawn.append(f'<path style="stroke:none;fill:{_RED}" d="M{" ".join(f"{c[0]:g} {c[1]:g}" for c in corners)}z"/>')
     return "".join(drawn)
