@@ -7,6 +7,8 @@ import shutil
 import signal
 import sqlite3
 import subprocess
+import sys
+import tempfile
 import threading
 import time
 from contextlib import closing
@@ -40,18 +42,6 @@ def test_results_in_a_file(store, tmp_path):
 @pytest.mark.parametrize("into", ["/dev/null", "/dev/null/audit", "/proc/audit", "x" * 300, "a\nb" * 200])
 def test_results_that_no_folder_can_hold(store, into):
     fails(3, store, "--into", into)
-
-
-@pytest.mark.skipif(os.getuid() != 0, reason="only root can become somebody else")
-def test_results_in_a_folder_without_rights(store, tmp_path):
-    (tmp_path / "audit").mkdir(mode=0o755)
-    os.chmod(tmp_path, 0o755)
-    # Folders above belong to the one who runs the tests.
-    shut = subprocess.run(["ls", tmp_path], preexec_fn=lambda: os.setuid(65534), capture_output=True).returncode
-    if shut:
-        pytest.skip("the folder of the tests is closed to others")
-    assert "unable to open database file" in fails(3, store, "--into", tmp_path / "audit", preexec_fn=lambda: os.setuid(65534))
-    assert "Permission denied" in fails(3, store, "--into", tmp_path / "new", preexec_fn=lambda: os.setuid(65534))
 
 
 def full(size):
@@ -305,3 +295,26 @@ def test_only_the_first_signal_is_raised(signals):
     signal.raise_signal(signal.SIGINT)
     signal.raise_signal(signal.SIGTERM)
     assert signals.status() == 130
+
+
+@pytest.mark.skipif(os.getuid() != 0, reason="only root can become somebody else")
+def test_the_current_folder_may_not_be_entered(store):
+    with tempfile.TemporaryDirectory(dir="/var/tmp") as room:
+        shutil.copytree(store, f"{room}/store")
+        os.mkdir(f"{room}/closed", 0o700)
+        os.chmod(room, 0o777)
+
+        def leave():
+            os.chdir(f"{room}/closed")
+            os.setgid(65534)
+            os.setuid(65534)
+
+        if subprocess.run([sys.executable, "-c", "import mvt"], preexec_fn=leave, capture_output=True).returncode:
+            pytest.skip("the module is closed to others")
+        env = {**os.environ, "TMPDIR": room}
+        status, out, error = audit(f"{room}/store", "--into", f"{room}/audit", preexec_fn=leave, env=env)
+        assert (status, error) == (1, "")
+        assert out.splitlines()[-1] == f"written: {room}/audit/audit.sqlite, {room}/audit/report.html"
+        os.mkdir(f"{room}/shut", 0o755)
+        assert "unable to open database file" in fails(3, f"{room}/store", "--into", f"{room}/shut", preexec_fn=leave, env=env)
+        assert "Permission denied" in fails(3, f"{room}/store", "--into", f"{room}/shut/audit", preexec_fn=leave, env=env)

@@ -5,6 +5,7 @@ import os
 import signal
 import sqlite3
 import sys
+import time
 import traceback
 from typing import Any, Optional, Tuple
 
@@ -17,6 +18,9 @@ USAGE, UNREAD, MEMORY = 2, 3, 4
 # The shell's way to tell a signal.
 _SIGNALLED = 128
 
+# So many seconds the command may take to end.
+_PATIENCE = 1.5
+
 # A line has paths in it, and whole sentences.
 _LONGEST = 1000
 
@@ -26,9 +30,11 @@ class Ended(KeyboardInterrupt):
 
 
 class Signals:
-    """Ctrl-C and SIGTERM. The first one is raised wherever the command is; what it does to end isn't broken off."""
+    """Ctrl-C and SIGTERM. The first one is raised wherever the command is; what it does to end isn't broken off, but by
+    one that comes when that lasts."""
 
     number: Optional[int] = None
+    _since = 0.0
 
     def heed(self) -> None:
         for each in (signal.SIGINT, signal.SIGTERM):
@@ -44,8 +50,10 @@ class Signals:
 
     def _end(self, number: int, _: Any) -> None:
         if self.number is None:
-            self.number = number
+            self.number, self._since = number, time.monotonic()
             raise Ended
+        if time.monotonic() - self._since > _PATIENCE:
+            os._exit(self.status())
 
 
 def hold_places() -> None:

@@ -104,8 +104,8 @@ def _judge(
 
 def _audit(given: argparse.Namespace, signals: Signals) -> int:
     stores, states = _stores(given)
-    total = sum(state.tiles for state in states)
-    with contextlib.closing(Results(given.into, given.anew)) as results:
+    total, into = sum(state.tiles for state in states), Path(os.path.abspath(given.into))
+    with contextlib.closing(Results(into, given.anew)) as results:
         try:
             found = _judge(given, results, stores, states, signals)
         except BaseException:
@@ -113,10 +113,10 @@ def _audit(given: argparse.Namespace, signals: Signals) -> int:
                 judged = sum(results.done(store.path).tiles for store in stores)
                 say(f"ended; {judged:,} of {total:,} tiles are judged; the same command goes on from here")
             raise
-        page = report.write(results, {store.path: store for store in stores}, found, given.into)
+        report.write(results, {store.path: store for store in stores}, found, into)
         for part in found["unfinished"][:3]:
             say(f"unfinished: part {part['part']} of {part['store']}: {part['why']}")
-        lines = summary.lines(found, [str(results.file), str(page)])
+        lines = summary.lines(found, [str(given.into / name) for name in (results.file.name, report.NAME)])
     write(json.dumps(found, indent=1) if given.json else "\n".join(lines))
     return summary.status(found)
 

@@ -168,15 +168,17 @@ def _ended(code: int) -> str:
 @contextlib.contextmanager
 def _started_from(folder: str) -> Iterator[None]:
     """Has this process be in a folder, and import nothing from the one that it was in."""
-    here, path = os.open(".", getattr(os, "O_PATH", os.O_RDONLY)), sys.path[:]
-    try:
+    path = sys.path[:]
+    with contextlib.ExitStack() as then:
+        # There is no way back to a folder that this user may not enter.
+        with contextlib.suppress(PermissionError):
+            here = os.open(".", getattr(os, "O_PATH", os.O_RDONLY))
+            then.callback(os.close, here)
+            then.callback(os.fchdir, here)
+        then.callback(sys.path.__setitem__, slice(None), path)
         sys.path[:] = path_without_here()
         os.chdir(folder)
         yield
-    finally:
-        os.fchdir(here)
-        os.close(here)
-        sys.path[:] = path
 
 
 def _work(tasks: Connection, found: Connection, judge: Judge) -> None:

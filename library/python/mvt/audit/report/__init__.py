@@ -9,10 +9,15 @@ from ..stores import Store
 from .page import page
 
 
-def write(results: Results, stores: Dict[str, Store], found: Dict[str, Any], folder: Path) -> Path:
-    """Makes the page of what was found, and answers its name."""
-    name = folder / "report.html"
-    unfinished = folder / "report.html.unfinished"
-    unfinished.write_text(page(results, stores, found), encoding="utf-8")
-    os.replace(unfinished, name)
-    return name
+NAME = "report.html"
+
+
+def write(results: Results, stores: Dict[str, Store], found: Dict[str, Any], folder: Path) -> None:
+    """Makes the page of what was found. Raises OSError where it can't be written."""
+    unfinished = folder / f"{NAME}.unfinished"
+    text = page(results, stores, found)
+    try:
+        unfinished.write_text(text, encoding="utf-8")
+        os.replace(unfinished, folder / NAME)
+    except OSError as why:
+        raise OSError(why.errno, why.strerror, str(folder / NAME)) from why
