@@ -28,6 +28,6 @@ def begin() -> None:
         return
     sys.path[:] = path_without_here()
     if "mvt.page" not in words:
-        import signal
+        import _signal  # which no file is read for
 
-        signal.signal(signal.SIGINT, signal.SIG_DFL)
+        _signal.signal(_signal.SIGINT, _signal.SIG_DFL)

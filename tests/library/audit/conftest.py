@@ -25,13 +25,24 @@ def store(tmp_path):
     return tmp_path / "store"
 
 
-@pytest.fixture
-def large(tmp_path):
-    """A list that names small tiles 20,000 times, which takes some seconds."""
+def _listed(folder, count):
+    """A list that names small tiles so many times."""
     from common import at_places, example_tiles, make_tree
 
     small = [tile for name, tile in example_tiles().items() if len(tile) < 2000]
-    make_tree(tmp_path / "large", at_places(small[:100]))
-    names = [f"large/{path.relative_to(tmp_path / 'large')}\n" for path in sorted((tmp_path / "large").rglob("*.mvt"))]
-    (tmp_path / "large.txt").write_text("".join(names) * (20_000 // len(names)))
-    return tmp_path / "large.txt"
+    make_tree(folder / "large", at_places(small[:100]))
+    names = [f"large/{path.relative_to(folder / 'large')}\n" for path in sorted((folder / "large").rglob("*.mvt"))]
+    (folder / "large.txt").write_text("".join(names) * (count // len(names)))
+    return folder / "large.txt"
+
+
+@pytest.fixture
+def large(tmp_path):
+    """A list of 20,000 tiles, which takes a second or some."""
+    return _listed(tmp_path, 20_000)
+
+
+@pytest.fixture
+def larger(tmp_path):
+    """A list of 150,000 tiles, which takes several seconds on any machine."""
+    return _listed(tmp_path, 150_000)
