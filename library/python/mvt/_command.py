@@ -28,6 +28,6 @@ def begin() -> None:
         return
     sys.path[:] = path_without_here()
     if "mvt.page" not in words:
-        import _signal  # which no file is read for
+        import _signal  # type: ignore[import]  # which no file is read for
 
         _signal.signal(_signal.SIGINT, _signal.SIG_DFL)

@@ -18,16 +18,9 @@ from mvt.audit import engine
 from mvt.audit.results import Results
 
 from common import AUDIT, Case, at_places, audit, check, example_tiles, json, make_mbtiles, make_tree, rows, start
+from processes import until
 
 DASK = {"scheduler": "distributed.cli.dask_scheduler", "worker": "distributed.cli.dask_worker"}
-
-
-def until(said, seconds=60):
-    """Waits until something is so."""
-    ends = time.monotonic() + seconds
-    while not said():
-        assert time.monotonic() < ends, "it never was so"
-        time.sleep(0.005)
 
 
 class Program:

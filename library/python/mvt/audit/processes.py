@@ -175,10 +175,12 @@ def _started_from(folder: str) -> Iterator[None]:
             here = os.open(".", getattr(os, "O_PATH", os.O_RDONLY))
             then.callback(os.close, here)
             then.callback(os.fchdir, here)
-        then.callback(sys.path.__setitem__, slice(None), path)
-        sys.path[:] = path_without_here()
-        os.chdir(folder)
-        yield
+        try:
+            sys.path[:] = path_without_here()
+            os.chdir(folder)
+            yield
+        finally:
+            sys.path[:] = path
 
 
 def _work(tasks: Connection, found: Connection, judge: Judge) -> None:
