@@ -9,7 +9,6 @@ from contextlib import closing
 from pathlib import Path
 
 import archives
-import mvt
 from common import EVIDENCE, FOUND, TOP, Case, at_places, audit, example_tiles, json, make_mbtiles, make_tree, packings, rows
 from evidence import layer, line, numeral, point, tile
 from feature import field
