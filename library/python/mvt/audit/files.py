@@ -1,16 +1,22 @@
-"""Tiles in files: what a folder tree and a list have in common."""
+"""Tiles in files: what a folder tree and a list have in common, and how a file is opened that somebody else made."""
 
+import errno
+import io
 import os
 import re
+import stat
 from typing import Iterator, List, Tuple
 
 from .stores import Address, Content
 from .unpacking import LIMIT
 
-_PLACE = re.compile(r"(?:.*/)?(\d{1,2})/(\d{1,10})/(\d{1,10})\.(?:mvt|pbf)(?:\.gz)?")
+_PLACE = re.compile(r"(?:.*/)?([0-9]{1,2})/([0-9]{1,10})/([0-9]{1,10})\.(?:mvt|pbf)(?:\.gz)?")
 
 # Of a larger file the front decides.
 MOST = LIMIT + (1 << 20)
+
+# What isn't opened, by its kind in a file's mode.
+_OTHERS = {stat.S_IFDIR: "a folder", stat.S_IFIFO: "a pipe", stat.S_IFCHR: "a device", stat.S_IFBLK: "a device"}
 
 # How much is read at a time of pieces that stand one behind the other.
 _LEAST_AHEAD, _MOST_AHEAD = 1 << 15, 1 << 20
@@ -30,9 +36,34 @@ def is_tile(name: str) -> bool:
     return _PLACE.fullmatch(name) is not None
 
 
+def opened(path: str) -> io.FileIO:
+    """A file, and nothing that is waited for: no pipe, device or terminal. Raises OSError."""
+    if "\0" in path:
+        raise OSError(errno.EINVAL, "a name with a NUL is no file's")
+    file = os.open(path, os.O_RDONLY | os.O_NONBLOCK | os.O_NOCTTY | os.O_CLOEXEC)
+    try:
+        kind = stat.S_IFMT(os.fstat(file).st_mode)
+        if kind != stat.S_IFREG:
+            raise OSError(errno.EINVAL, f"it is {_OTHERS.get(kind, 'something else')}, and no file", path)
+        return io.FileIO(file)
+    except BaseException:
+        os.close(file)
+        raise
+
+
+def front(path: str, length: int) -> bytes:
+    """The first bytes of a file; none where it can't be read."""
+    try:
+        with opened(path) as file:
+            return file.read(length) or b""
+    except OSError:
+        return b""
+
+
 def read(path: str) -> bytes:
-    with open(path, "rb", buffering=0) as file:
-        return file.read(MOST)
+    """A file, or the front that decides. Raises OSError."""
+    with opened(path) as file:
+        return os.read(file.fileno(), MOST)
 
 
 class ReadAhead:
@@ -56,10 +87,10 @@ class ReadAhead:
 def told(path: str, name: str) -> bytes:
     """A file's name, size and time of change, for a digest."""
     try:
-        stat = os.stat(path)
-    except OSError:
+        told = os.stat(path)
+    except (OSError, ValueError):  # the latter for a name with a NUL
         return os.fsencode(f"{name}\0absent\n")
-    return os.fsencode(f"{name}\0{stat.st_size}\0{stat.st_mtime_ns}\n")
+    return os.fsencode(f"{name}\0{told.st_size}\0{told.st_mtime_ns}\n")
 
 
 def tiles_of(folder: str, names: List[str]) -> Iterator[Tuple[Address, Content]]:

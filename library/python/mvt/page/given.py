@@ -2,7 +2,6 @@
 
 import os
 import re
-import stat
 from typing import Any, Dict, List, NamedTuple, Optional, Sequence, Tuple
 
 from ..audit import files
@@ -98,10 +97,7 @@ def _store(path: str, options: Options) -> Optional[Store]:
 
 def _readable(path: str) -> str:
     try:
-        with open(path, "rb") as file:
-            is_regular = stat.S_ISREG(os.fstat(file.fileno()).st_mode)
+        files.opened(path).close()
     except OSError as why:
         raise GivenError(f"{shown(path)}: {why.strerror}") from why
-    if not is_regular:
-        raise GivenError(f"{shown(path)}: no file")
     return os.path.abspath(path)

@@ -1,6 +1,7 @@
 """A .txt file with the name of a tile's file on each line. Names are taken from the list's own folder."""
 
 import hashlib
+import io
 import os
 from typing import BinaryIO, Iterator, List, Optional, Tuple, Union
 
@@ -66,7 +67,7 @@ class Listed(Store):
         """The names from a line on, each with where its line begins."""
         [start] = (0,) if key is None else key
         try:
-            with open(self.path, "rb") as file:
+            with io.BufferedReader(files.opened(self.path)) as file:
                 at = _seek_line(file, start)
                 for line in file:
                     if line.strip():

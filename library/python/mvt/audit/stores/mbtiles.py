@@ -7,6 +7,7 @@ from contextlib import closing
 from pathlib import Path
 from typing import Any, Iterator, List, Optional, Tuple
 
+from .. import files
 from ..files import MOST
 from . import Address, Content, Key, Options, State, Store, StoreError
 
@@ -18,17 +19,9 @@ Range = Tuple[Key, Optional[Key]]
 
 
 def opened(path: str, options: Options = Options()) -> Optional["MBTiles"]:
-    if os.path.isdir(path) or not (path.endswith(".mbtiles") or _front(path, 16) == _MAGIC):
+    if os.path.isdir(path) or not (path.endswith(".mbtiles") or files.front(path, 16) == _MAGIC):
         return None
     return MBTiles(path)
-
-
-def _front(path: str, length: int) -> bytes:
-    try:
-        with open(path, "rb") as file:
-            return file.read(length)
-    except OSError:
-        return b""
 
 
 class MBTiles(Store):
@@ -119,12 +112,16 @@ class MBTiles(Store):
         return _bytes(found[0])
 
     def _connect(self) -> sqlite3.Connection:
+        try:
+            files.opened(self.path).close()  # SQLite would wait for a pipe
+        except OSError as why:
+            raise sqlite3.OperationalError(why.strerror) from why
         return sqlite3.connect(f"{Path(self.path).as_uri()}?mode=ro", uri=True)
 
     def _check_file(self) -> None:
         """What SQLite tells in words that say little."""
         try:
-            with open(self.path, "rb") as file:
+            with files.opened(self.path) as file:
                 head, size = file.read(100), os.fstat(file.fileno()).st_size
         except OSError as why:
             raise StoreError(f"{self.path}: {why.strerror}") from why
@@ -163,7 +160,7 @@ class MBTiles(Store):
 
     def _digest(self) -> str:
         """Of the file's size and times and SQLite's count of changes, and of the log that may stand beside it."""
-        digest = hashlib.sha256(_front(self.path, 100))
+        digest = hashlib.sha256(files.front(self.path, 100))
         for path in (self.path, self.path + "-wal"):
             if os.path.exists(path) and os.path.getsize(path):
                 digest.update(f"{os.path.getsize(path)} {os.stat(path).st_mtime_ns}\n".encode())

@@ -8,6 +8,7 @@ from contextlib import contextmanager
 from functools import lru_cache, partial
 from typing import BinaryIO, Callable, Iterator, List, NamedTuple, Optional, Tuple, Union
 
+from .. import files
 from ..archive import GZIP, HEADER, MAGIC, MOST, ArchiveError, Directory, Entry, Header, Section, unpacked
 from ..files import MOST as MOST_OF_A_TILE
 from ..files import ReadAhead
@@ -53,17 +54,9 @@ Part = List[Union[Slice, Fault]]
 
 
 def opened(path: str, options: Options = Options()) -> Optional["PMTiles"]:
-    if os.path.isdir(path) or not (path.endswith(".pmtiles") or _front(path) == MAGIC):
+    if os.path.isdir(path) or not (path.endswith(".pmtiles") or files.front(path, len(MAGIC)) == MAGIC):
         return None
     return PMTiles(path)
-
-
-def _front(path: str) -> bytes:
-    try:
-        with open(path, "rb") as file:
-            return file.read(len(MAGIC))
-    except OSError:
-        return b""
 
 
 class PMTiles(Store):
@@ -96,7 +89,7 @@ class PMTiles(Store):
         """A part has so many tiles, of as many directories as these stand in."""
         part: Part = []
         room = size
-        with open(self.path, "rb", buffering=0) as file:
+        with files.opened(self.path) as file:
             for piece in self._pieces(file):
                 if isinstance(piece, Fault):
                     part.append(piece)
@@ -113,7 +106,7 @@ class PMTiles(Store):
             yield part
 
     def tiles(self, part: Part) -> Iterator[Tuple[Address, Content]]:
-        with open(self.path, "rb", buffering=0) as file:
+        with files.opened(self.path) as file:
             for piece in part:
                 if isinstance(piece, Fault):
                     yield Address(None, None, None, piece.name), StoreError(piece.why)
@@ -160,7 +153,7 @@ class PMTiles(Store):
     @contextmanager
     def _reading(self) -> Iterator[BinaryIO]:
         """The file, with its header as it is now. What is wrong with the archive is an OSError."""
-        with open(self.path, "rb", buffering=0) as file:
+        with files.opened(self.path) as file:
             try:
                 self._header = Header.of(file.read(HEADER), os.fstat(file.fileno()).st_size)
                 yield file
