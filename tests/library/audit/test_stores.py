@@ -1,11 +1,13 @@
 """Stores and unpacking, without a cluster."""
 
+import contextlib
 import gzip
 import itertools
 import pickle
 import random
 import resource
 import sqlite3
+import time
 import unittest
 import zlib
 from collections import Counter
@@ -18,7 +20,7 @@ from mvt.audit.files import ReadAhead
 from mvt.audit.judging import judged, judged_part
 from mvt.audit.results import Block, Results
 from mvt.audit.stores import Address, StoreError
-from mvt.audit.unpacking import LIMIT, NotUnpacked, unpacked
+from mvt.audit.unpacking import LIMIT, MOST_MEMBERS, NotUnpacked, unpacked
 
 
 def all_of(store, size):
@@ -201,6 +203,23 @@ class Unpacking(unittest.TestCase):
                     if kind != "plain" or not tile.startswith(b"\x1f\x8b"):
                         self.assertEqual(unpacked(stored), tile, kind)
         self.assertEqual(unpacked(gzip.compress(b"a") + gzip.compress(b"b") + b"\0\0"), b"ab")
+
+    def test_many_members(self):
+        one = gzip.compress(b"ab", mtime=0)
+        self.assertEqual(unpacked(one * MOST_MEMBERS), b"ab" * MOST_MEMBERS)
+        self.assertEqual(unpacked((one + bytes(70_000)) * 50), b"ab" * 50)
+        with self.assertRaisesRegex(NotUnpacked, "more than 4,096 members of gzip"):
+            unpacked(one * (MOST_MEMBERS + 1))
+        large = gzip.compress(bytes(LIMIT // 2), mtime=0)
+        self.assertEqual(unpacked(large * 2), bytes(LIMIT))
+        self.assertEqual(len(unpacked(large * 2 + one)), LIMIT + 1)
+
+    def test_members_cost_no_square_of_their_number(self):
+        for stored in (gzip.compress(b"", mtime=0) * 100_000, gzip.compress(random.Random(1).randbytes(16_000), mtime=0) * 4096):
+            begun = time.process_time()
+            with contextlib.suppress(NotUnpacked):
+                unpacked(stored)
+            self.assertLess(time.process_time() - begun, 15)
 
     def test_what_is_broken(self):
         tile = example_tiles()["gdal"]

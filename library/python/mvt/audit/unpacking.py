@@ -1,7 +1,8 @@
 """Tiles out of their compression, by Python's own zlib and never past the codec's limit."""
 
+import re
 import zlib
-from typing import Tuple
+from typing import List, Tuple
 
 # What the codec takes at most.
 LIMIT = 67_108_864
@@ -10,6 +11,11 @@ GZIP = b"\x1f\x8b"
 _WINDOW_OF_EITHER = 47
 # Tiles seldom unpack to more than so many times their bytes, and room that isn't used costs time.
 _USUAL = 8
+
+# A gzip of more members is no tile's: an empty one has 20 bytes, and each costs time.
+MOST_MEMBERS = 4096
+_PIECE = 1 << 16
+_PADDING = re.compile(rb"\0*")
 
 
 class NotUnpacked(Exception):
@@ -39,28 +45,36 @@ def unpacked(stored: bytes) -> bytes:
 
 def _unusual(stored: bytes) -> bytes:
     """The same, of what is several members, or broken, or larger than usual."""
-    tile, stored = _member(stored, LIMIT + 1)
-    while stored and len(tile) <= LIMIT:
-        member, stored = _member(stored, LIMIT + 1 - len(tile))
-        tile += member
-    return tile
+    pieces: List[bytes] = []
+    end = made = 0
+    for _ in range(MOST_MEMBERS):
+        member, end = _member(stored, end, LIMIT + 1 - made)
+        pieces += member
+        made += sum(map(len, member))
+        if end == len(stored) or made > LIMIT:
+            return b"".join(pieces)
+    raise NotUnpacked(f"more than {MOST_MEMBERS:,} members of gzip")
 
 
-def _member(stored: bytes, most: int) -> Tuple[bytes, bytes]:
-    """The first member of a gzip, or the whole of a zlib, and what stands behind it."""
-    stream = zlib.decompressobj(_WINDOW_OF_EITHER)
-    try:
-        made = stream.decompress(stored, min(most, _USUAL * len(stored)))
-        if not stream.eof and len(made) < most:
-            made += stream.decompress(stream.unconsumed_tail, most - len(made))
-    except zlib.error as why:
-        raise NotUnpacked(_reason(why)) from why
-    if not stream.eof and len(made) < most:
-        raise NotUnpacked("cut off")
-    rest = stream.unused_data and stream.unused_data.lstrip(b"\0")
-    if rest and len(made) < most and not rest.startswith(GZIP):
-        raise NotUnpacked(f"{len(rest)} more bytes behind its end")
-    return made, rest
+def _member(stored: bytes, begin: int, most: int) -> Tuple[List[bytes], int]:
+    """What the member of a gzip that begins somewhere, or the whole of a zlib, has at most; and where the next begins."""
+    stream, view = zlib.decompressobj(_WINDOW_OF_EITHER), memoryview(stored)
+    made, count, fed = [], 0, begin
+    while not stream.eof and count < most:
+        # What a call leaves over it copies, so it gets little.
+        given = stream.unconsumed_tail or view[fed : fed + _PIECE]
+        if not given:
+            raise NotUnpacked("cut off")
+        fed += 0 if stream.unconsumed_tail else len(given)
+        try:
+            made.append(stream.decompress(given, most - count))
+        except zlib.error as why:
+            raise NotUnpacked(_reason(why)) from why
+        count += len(made[-1])
+    end = _PADDING.match(stored, fed - len(stream.unused_data)).end()  # type: ignore[union-attr]
+    if end < len(stored) and count < most and not stored.startswith(GZIP, end):
+        raise NotUnpacked(f"{len(stored) - end} more bytes behind its end")
+    return made, end
 
 
 def _reason(error: zlib.error) -> str:
