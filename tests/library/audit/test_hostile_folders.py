@@ -127,3 +127,139 @@ def contents_of(store):
         return [content for *_, content in store.since(None)]
     except (OSError, StoreError) as why:
         return [why]
+
+
+# ---- names of folders
+
+
+def test_digits_are_those_of_ascii(tmp_path):
+    tree = make_tree(tmp_path / "tree", {(3, 0, 0): TILE})
+    for name in ("٣/0/0", "3/٠/0", "3/0/٠", "３/0/0", "²/0/0"):
+        path = tree / f"{name}.mvt"
+        path.parent.mkdir(parents=True, exist_ok=True)
+        path.write_bytes(TILE)
+    assert verdicts(audited(tree)) == {"3/0/0.mvt": "accepted"}
+    assert [str(address) for _, address, _ in listed(tree)] == ["3/0/0.mvt"]
+    assert files.address_of("٣/0/0.mvt")[:3] == (None, None, None)
+
+
+def test_zeros_in_front_make_no_second_tile(tmp_path):
+    tree = make_tree(tmp_path / "tree", {(1, 0, 0): TILE, (1, 1, 1): TILE, (10, 0, 0): TILE})
+    for name in ("01/0/0", "1/00/0", "1/0/00", "05/0/0", "000001/0/0", "123456789012345678901234567890/0/0", "1/99999999999/0"):
+        path = tree / f"{name}.mvt"
+        path.parent.mkdir(parents=True, exist_ok=True)
+        path.write_bytes(TILE)
+    wanted = ["1/0/0.mvt", "1/1/1.mvt", "10/0/0.mvt"]
+    assert list(verdicts(audited(tree))) == wanted
+    assert len(audited(tree)) == 3
+    assert [str(address) for _, address, _ in listed(tree)] == wanted
+
+
+@pytest.mark.parametrize("name", ["5", "5/3"])
+@pytest.mark.parametrize("to", ["nothing", "itself"])
+def test_a_link_that_leads_nowhere_is_an_unread_row(name, to, tmp_path):
+    tree = make_tree(tmp_path / "tree", {(4, 0, 0): TILE, (5, 1, 0): TILE, (6, 0, 0): TILE})
+    path = tree / name
+    if name == "5":
+        for each in (tree / "5" / "1" / "0.mvt", tree / "5" / "1", tree / "5"):
+            each.unlink() if each.is_file() else each.rmdir()
+    path.symlink_to("nowhere" if to == "nothing" else path.name)
+    rows = verdicts(audited(tree))
+    assert rows == {"4/0/0.mvt": "accepted", name: "unread", "6/0/0.mvt": "accepted", **({"5/1/0.mvt": "accepted"} if name != "5" else {})}
+    assert sorted(str(address) for _, address, _ in listed(tree)) == sorted(rows)
+
+
+def test_a_folder_that_may_not_be_listed_is_an_unread_row(tmp_path, monkeypatch):
+    tree = make_tree(tmp_path / "tree", {(4, 0, 0): TILE, (5, 1, 0): TILE, (5, 2, 0): TILE, (6, 0, 0): TILE})
+    closed, listdir, open_ = str(tree / "5" / "1"), os.listdir, os.open
+
+    def refused(call):
+        def ask(path, *words, **named):
+            if str(path) == closed:
+                raise PermissionError(13, "Permission denied", path)
+            return call(path, *words, **named)
+
+        return ask
+
+    # root may list each folder
+    monkeypatch.setattr(os, "listdir", refused(listdir))
+    monkeypatch.setattr(os, "open", refused(open_))
+    rows = audited(tree)
+    assert verdicts(rows) == {"4/0/0.mvt": "accepted", "5/1": "unread", "5/2/0.mvt": "accepted", "6/0/0.mvt": "accepted"}
+    assert [row.notes for row in rows if row.verdict == "unread"] == ["Permission denied"]
+    found = listed(tree)
+    assert [str(address) for _, address, _ in found] == list(verdicts(rows))
+    with pytest.raises(OSError):
+        stores.opened(str(tree)).held(found[1][0])
+
+
+@pytest.mark.parametrize("key", [(), (1, 2, 3), (-1,), (1, -1), (1, 2, 3, 4), (1, 2, 3, -1), ("..",), ("5", 0, 0, 0), (1, 2, 3, 0, 0)])
+def test_a_key_that_is_none_makes_no_path(key, tmp_path):
+    tree = make_tree(tmp_path / "tree", {(4, 0, 0): TILE})
+    for ask in (stores.opened(str(tree)).held, lambda key: list(stores.opened(str(tree)).since(key))):
+        with pytest.raises(ValueError):
+            ask(key)
+
+
+def test_names_with_controls(tmp_path):
+    tree = make_tree(tmp_path / "tree", {(1, 0, 0): TILE})
+    for name in ("1\n", "\x1b]0;owned\x07", "1 "):
+        (tree / name / "0").mkdir(parents=True)
+        (tree / name / "0" / "0.mvt").write_bytes(TILE)
+    (tree / "1" / "0" / "0\n.mvt").write_bytes(TILE)
+    assert verdicts(audited(tree)) == {"1/0/0.mvt": "accepted"}
+
+
+def test_a_place_beyond_its_zoom_is_a_row(tmp_path):
+    tree = make_tree(tmp_path / "tree", {(0, 1, 0): TILE, (1, 0, 300): b"broken", (3, 99999, 0): TILE, (99, 0, 9999999999): TILE})
+    rows = {row.name: row[:3] for row in audited(tree)}
+    assert rows["0/1/0.mvt"] == (0, 1, 0) and rows["1/0/300.mvt"] == (1, 0, 300) and rows["3/99999/0.mvt"] == (3, 99999, 0)
+    assert len(listed(tree)) == len(rows) == 4
+
+
+# ---- lists
+
+
+def test_a_name_with_a_nul_is_an_unread_row(tmp_path):
+    (tmp_path / "good.mvt").write_bytes(TILE)
+    (tmp_path / "list.txt").write_bytes(b"a\0b\ngood.mvt\n\0\n")
+    rows = audited(tmp_path / "list.txt")
+    assert [row.verdict for row in rows] == ["unread", "accepted", "unread"]
+    assert len(listed(tmp_path / "list.txt")) == 3
+    with pytest.raises(OSError):
+        stores.opened(str(tmp_path / "list.txt")).held((0,))
+
+
+def test_a_binary_file_is_rows_or_a_line(tmp_path):
+    path = tmp_path / "list.txt"
+    path.write_bytes(bytes(range(256)) * 20)
+    assert {row.verdict for row in audited(path)} == {"unread"}
+    path.write_bytes(b"\x89PNG" + b"x" * 100_000)
+    with pytest.raises(StoreError, match="no list: the line at byte 0 is longer than any name"):
+        audited(path)
+
+
+def test_a_hole_of_a_terabyte_is_no_line(tmp_path):
+    path = tmp_path / "list.txt"
+    with open(path, "wb") as file:
+        file.truncate(1 << 40)
+    for ask in (audited, listed):
+        with pytest.raises(StoreError, match="longer than any name"):
+            ask(path)
+
+
+def test_odd_names_in_a_list(tmp_path):
+    names = [b"/dev/zero", b".", b"..", b"/", b"x" * 300, b"x/" * 3000, b"\xff\xfe", b"\x1b[2J", b"~", b"-", b"http://127.0.0.1:1/", b"99/99999999999/1.mvt"]
+    (tmp_path / "list.txt").write_bytes(b"\n".join(names))
+    rows = audited(tmp_path / "list.txt")
+    assert [row.verdict for row in rows] == ["unread"] * len(names)
+    assert len(listed(tmp_path / "list.txt")) == len(names)
+
+
+@pytest.mark.parametrize("key", [(-1,), ("0",), (1,), (1 << 70,), (), (0, 0), (None,)])
+def test_a_key_that_is_no_line(key, tmp_path):
+    (tmp_path / "list.txt").write_text("one\ntwo\n")
+    store = stores.opened(str(tmp_path / "list.txt"))
+    for ask in (store.held, lambda key: list(store.since(key))):
+        with pytest.raises(ValueError):
+            ask(key)

@@ -32,10 +32,6 @@ def address_of(name: str) -> Address:
     return Address(z, x, y, shown)
 
 
-def is_tile(name: str) -> bool:
-    return _PLACE.fullmatch(name) is not None
-
-
 def opened(path: str) -> io.FileIO:
     """A file, and nothing that is waited for: no pipe, device or terminal. Raises OSError."""
     if "\0" in path:

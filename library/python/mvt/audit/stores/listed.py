@@ -8,6 +8,9 @@ from typing import BinaryIO, Iterator, List, Optional, Tuple, Union
 from .. import files
 from . import Address, Content, Key, Options, State, Store, StoreError
 
+# So long, in bytes, a line may be; a name that the system takes is shorter.
+_LONGEST = 8192
+
 
 def opened(path: str, options: Options = Options()) -> Optional["Listed"]:
     return Listed(path) if path.endswith(".txt") and not os.path.isdir(path) else None
@@ -69,7 +72,9 @@ class Listed(Store):
         try:
             with io.BufferedReader(files.opened(self.path)) as file:
                 at = _seek_line(file, start)
-                for line in file:
+                for line in iter(lambda: file.readline(_LONGEST), b""):
+                    if len(line) == _LONGEST and line[-1:] != b"\n":
+                        raise StoreError(f"{self.path}: no list: the line at byte {at:,} is longer than any name")
                     if line.strip():
                         yield at, os.fsdecode(line.rstrip(b"\r\n"))
                     at += len(line)
@@ -79,7 +84,7 @@ class Listed(Store):
 
 def _seek_line(file: BinaryIO, start: Union[int, str]) -> int:
     """Goes to a line. Raises ValueError where none begins there: a part of a name may be another name."""
-    if not isinstance(start, int) or start < 0:
+    if not isinstance(start, int) or not 0 <= start < 1 << 63:
         raise ValueError("a line begins at a number")
     if start > 0:
         file.seek(start - 1)

@@ -9,7 +9,9 @@ from .. import files
 from . import Address, Content, Key, Options, State, Store, StoreError
 
 ENDINGS = (".mvt", ".pbf", ".mvt.gz", ".pbf.gz")
-_ENTRY = re.compile(r"(0|[1-9]\d{0,9})(\.(?:mvt|pbf)(?:\.gz)?)")
+_ENTRY = re.compile(r"(0|[1-9][0-9]{0,9})(\.(?:mvt|pbf)(?:\.gz)?)")
+# Zooms have two digits at most. Other scripts have digits too, which name no tile.
+_ZOOM, _COLUMN = re.compile("0|[1-9][0-9]?"), re.compile("0|[1-9][0-9]{0,9}")
 
 
 def opened(path: str, options: Options = Options()) -> Optional["Tree"]:
@@ -44,16 +46,12 @@ class Tree(Store):
     def tile(self, address: Address) -> bytes:
         return files.read(os.path.join(self.path, str(address)))
 
-    # A key is z, x, y and which of the endings. Numbers with zeros before them have none.
+    # A key is z, x, y and which of the endings; or z, or z and x, of a folder that can't be listed.
 
     def since(self, key: Optional[Key]) -> Iterator[Tuple[Key, Address, Content]]:
-        first = (0, 0, 0, 0) if key is None else _checked(key)
-        for z in map(int, self._numbers("")):
-            for x in map(int, self._numbers(str(z)) if z >= first[0] else ()):
-                for place in self._places(z, x) if (z, x) >= first[:2] else ():
-                    if place >= first:
-                        [(address, content)] = files.tiles_of(self.path, [_name(place)])
-                        yield place, address, content
+        for place in self._places(() if key is None else _checked(key)):
+            [(address, content)] = files.tiles_of(self.path, [_name(place)])
+            yield place, address, content
 
     def find(self, z: int, x: int, y: int) -> Optional[Key]:
         places = [(z, x, y, ending) for ending in range(len(ENDINGS))]
@@ -62,44 +60,61 @@ class Tree(Store):
     def held(self, key: Key) -> bytes:
         return files.read(os.path.join(self.path, _name(_checked(key))))
 
-    def _places(self, z: int, x: int) -> List[Tuple[int, int, int, int]]:
-        """The keys of a folder, in order."""
-        entries = filter(None, map(_ENTRY.fullmatch, self._listed(f"{z}/{x}")))
+    def _names(self) -> Iterator[str]:
+        return map(_name, self._places(()))
+
+    def _places(self, first: Key) -> Iterator[Key]:
+        """The keys from one on, in order. A folder that can't be listed stands before those that it would have."""
+        for z in self._numbers((), _ZOOM):
+            if (z,) < first[:1]:
+                continue
+            try:
+                columns = self._numbers((z,), _COLUMN)
+            except OSError:
+                yield from _from(first, [(z,)])
+                continue
+            for x in columns:
+                if (z, x) >= first[:2]:
+                    yield from _from(first, self._column(z, x))
+
+    def _column(self, z: int, x: int) -> List[Key]:
+        """The keys of a column's tiles, in order."""
+        try:
+            entries = filter(None, map(_ENTRY.fullmatch, self._listed((z, x))))
+        except OSError:
+            return [(z, x)]
         return sorted((z, x, int(entry[1]), ENDINGS.index(entry[2])) for entry in entries)
 
-    def _names(self) -> Iterator[str]:
-        """The names of the tiles, one folder of the tree at a time."""
-        for z in self._numbers(""):
-            for x in self._numbers(z):
-                folder = f"{z}/{x}"
-                for entry in sorted(self._listed(folder), key=lambda name: (len(name), name)):
-                    name = f"{folder}/{entry}"
-                    if files.is_tile(name):
-                        yield name
+    def _numbers(self, folder: Key, pattern: "re.Pattern[str]") -> List[int]:
+        """The folders of a folder, in order."""
+        return sorted(map(int, filter(pattern.fullmatch, self._listed(folder))))
 
-    def _numbers(self, folder: str) -> List[str]:
-        return sorted(filter(str.isdecimal, self._listed(folder)), key=int)
-
-    def _listed(self, folder: str) -> List[str]:
-        path = os.path.join(self.path, folder)
+    def _listed(self, folder: Key) -> List[str]:
+        """What a folder has; nothing where it is none. Raises OSError, and StoreError for the store's own folder."""
+        path = os.path.join(self.path, _name(folder))
         try:
             return os.listdir(path)
         except NotADirectoryError:
             return []
         except OSError as why:
+            if folder:
+                raise
             raise StoreError(f"{path}: {why.strerror}") from why
 
 
-def _checked(key: Key) -> Tuple[int, int, int, int]:
-    """A key of a folder, which is four numbers: no path is made of anything else."""
-    z, x, y, ending = key
-    if not (isinstance(z, int) and isinstance(x, int) and isinstance(y, int) and isinstance(ending, int)):
-        raise ValueError("a key is four numbers")
-    if min(z, x, y, ending) < 0 or ending >= len(ENDINGS):
+def _from(first: Key, places: List[Key]) -> Iterator[Key]:
+    return (place for place in places if place >= first)
+
+
+def _checked(key: Key) -> Key:
+    """A key of a folder, which is numbers: no path is made of anything else."""
+    if len(key) not in (1, 2, 4) or not all(isinstance(each, int) for each in key):
+        raise ValueError("a key is one, two or four numbers")
+    if min(key) < 0 or key[3:] >= (len(ENDINGS),):
         raise ValueError("a number is out of range")
-    return z, x, y, ending
+    return key
 
 
-def _name(place: Tuple[int, int, int, int]) -> str:
-    z, x, y, ending = place
-    return f"{z}/{x}/{y}{ENDINGS[ending]}"
+def _name(key: Key) -> str:
+    name = "/".join(map(str, key[:3]))
+    return name + ENDINGS[key[3]] if len(key) == 4 else name
