@@ -10,8 +10,10 @@ from .tile_ids import DEEPEST, first_of
 MAGIC = b"PMTiles"
 HEADER = 127
 
-# What a directory may unpack to.
+# What a directory may have, stored and unpacked.
 MOST = 64_000_000
+# How many tiles an archive may name: one at each place.
+MOST_TILES = first_of(DEEPEST + 1)
 
 _FIELDS = struct.Struct("<7sB11Q6B")
 _MVT = 1
@@ -22,7 +24,6 @@ _MODULES = {BROTLI: ("brotli", "python3-brotli"), ZSTD: ("zstandard", "python3-z
 # Few enough that what they unpack to is some megabytes at most.
 _BROTLI_STEP = 4
 _ENDLESS = 1 << 64
-_BEHIND_ALL = first_of(DEEPEST + 1)
 _EARLIER_BYTES = bytes(range(128, 256))
 
 
@@ -98,14 +99,18 @@ class Directory:
         """The tile id of its first entry; -1 where there is none."""
         return next(_numbers(self._ids), -1)
 
+    def own(self) -> int:
+        """How many of its entries are of tiles, a run of equal ones being one."""
+        return self.count - sum(run == 0 for run in _numbers(self._runs))
+
     def places(self) -> int:
-        """How many tiles its own entries name."""
+        """How many tiles these name."""
         return sum(_numbers(self._runs))
 
     def has_leaves(self) -> bool:
         return 0 in _numbers(self._runs)
 
-    def entries(self, low: int = 0, high: int = _BEHIND_ALL) -> Iterator[Entry]:
+    def entries(self, low: int = 0, high: int = MOST_TILES) -> Iterator[Entry]:
         """The entries in order, whose tile ids lie from one on up to another. Raises ArchiveError behind the last that is as
         it should be."""
         tile_id = behind = at = 0
@@ -115,7 +120,7 @@ class Directory:
             if tile_id < behind:
                 raise ArchiveError(f"entry {index} (tile id {tile_id}) is out of order or overlaps the one before it")
             behind = tile_id + (run or 1)
-            if tile_id + run > _BEHIND_ALL:
+            if tile_id + run > MOST_TILES:
                 raise ArchiveError(f"entry {index} has tile ids beyond zoom {DEEPEST}")
             if length == 0:
                 raise ArchiveError(f"entry {index} (tile id {tile_id}) has no bytes")

@@ -9,10 +9,10 @@ from functools import lru_cache, partial
 from typing import BinaryIO, Callable, Iterator, List, NamedTuple, Optional, Tuple, Union
 
 from .. import files
-from ..archive import GZIP, HEADER, MAGIC, MOST, ArchiveError, Directory, Entry, Header, Section, unpacked
+from ..archive import GZIP, HEADER, MAGIC, MOST, MOST_TILES, ArchiveError, Directory, Entry, Header, Section, unpacked
 from ..files import MOST as MOST_OF_A_TILE
 from ..files import ReadAhead
-from ..tile_ids import DEEPEST, first_of, id_of, place_of
+from ..tile_ids import id_of, place_of
 from ..unpacking import LIMIT, NotUnpacked
 from . import Address, Content, Key, Options, State, Store, StoreError
 
@@ -35,11 +35,19 @@ class Where(NamedTuple):
 
 
 class Slice(NamedTuple):
-    """Of a directory's own tiles, counted one by one, those from one on up to another."""
+    """Of a directory's own entries those from one on up to another."""
 
     where: Where
     first: int
     end: int
+
+
+class Own(NamedTuple):
+    """How many entries of tiles a directory has, beside those of leaf directories, and how many tiles these name."""
+
+    where: Where
+    entries: int
+    tiles: int
 
 
 class Fault(NamedTuple):
@@ -80,13 +88,13 @@ class PMTiles(Store):
             with self._reading() as file:
                 size, told = os.fstat(file.fileno()).st_size, os.fstat(file.fileno()).st_mtime_ns
                 front = os.pread(file.fileno(), HEADER, 0)
-                tiles = self.header.addressed or sum(end - first for first, end in self._spans(file))
+                tiles = self.header.addressed or self._counted(file)
         except OSError as why:
             raise StoreError(f"{self.path}: {why.strerror}") from why
-        return State(tiles, hashlib.sha256(front + f"{size} {told}".encode()).hexdigest())
+        return State(min(tiles, MOST_TILES), hashlib.sha256(front + f"{size} {told}".encode()).hexdigest())
 
     def ranges(self, size: int) -> Iterator[Part]:
-        """A part has so many tiles, of as many directories as these stand in."""
+        """A part has so many entries, of as many directories as these stand in."""
         part: Part = []
         room = size
         with files.opened(self.path) as file:
@@ -161,9 +169,11 @@ class PMTiles(Store):
                 raise OSError(errno.EIO, str(why)) from why
 
     def _root(self) -> Where:
-        return Where(self.header.root, 0, first_of(DEEPEST + 1))
+        return Where(self.header.root, 0, MOST_TILES)
 
     def _directory(self, file: BinaryIO, where: Where) -> Directory:
+        if where.section.length > MOST:
+            raise ArchiveError(f"it has {where.section.length:,} bytes; {MOST:,} are the most")
         stored = os.pread(file.fileno(), where.section.length, where.section.offset)
         if len(stored) < where.section.length:
             raise ArchiveError("the file ends in it")
@@ -219,31 +229,31 @@ class PMTiles(Store):
         except ArchiveError as why:
             yield Fault(str(where), str(why), last)
 
-    def _walked(self, file: BinaryIO, where: Where, above: Tuple[Section, ...] = ()) -> Iterator[Union[Tuple[Where, int], Fault]]:
-        """A directory with the number of its own tiles, and then those below it; or what is wrong with one of them."""
+    def _walked(self, file: BinaryIO, where: Where, above: Tuple[Section, ...] = ()) -> Iterator[Union[Own, Fault]]:
+        """A directory with what it has of its own, and then those below it; or what is wrong with one of them."""
         try:
             directory = self._opened(file, where, above)
-            yield where, directory.places()
+            yield Own(where, directory.own(), directory.places())
             if directory.has_leaves():
                 for leaf in self._leaves(directory, where.high):
                     yield from self._walked(file, leaf, (*above, where.section))
         except ArchiveError as why:
             yield Fault(str(where), str(why))
 
-    def _spans(self, file: BinaryIO) -> Iterator[Tuple[int, int]]:
-        """The tiles of each directory, counted over the whole archive."""
-        begun = faults = 0
+    def _counted(self, file: BinaryIO) -> int:
+        """How many tiles the whole archive has."""
+        tiles = faults = 0
         for found in self._walked(file, self._root()):
-            if isinstance(found, Fault):
-                faults += 1
-                if faults == MOST_FAULTS:
-                    return
-            else:
-                yield begun, begun + found[1]
-                begun += found[1]
+            if isinstance(found, Own):
+                tiles += found.tiles
+                continue
+            faults += 1
+            if faults == MOST_FAULTS:
+                break
+        return tiles
 
     def _pieces(self, file: BinaryIO) -> Iterator[Union[Slice, Fault]]:
-        """The own tiles of each directory, and what is wrong with the archive."""
+        """The own entries of each directory, and what is wrong with the archive."""
         told, found, faults = self.header.addressed, 0, 0
         for each in self._walked(file, self._root()):
             if isinstance(each, Fault):
@@ -253,29 +263,27 @@ class PMTiles(Store):
                     yield Fault("directories", f"{MOST_FAULTS} can't be read; the rest isn't looked at")
                     return
                 continue
-            where, places = each
-            found += places
+            found += each.tiles
             if told and found > told:
-                yield Fault(str(where), f"with it the archive has {found:,} tiles, and its header says {told:,}")
+                yield Fault(str(each.where), f"with it the archive has {found:,} tiles, and its header says {told:,}")
                 return
-            yield Slice(where, 0, places)
+            yield Slice(each.where, 0, each.entries)
         if found < told:
             yield Fault("header", f"it says {told:,} tiles, and the directories have {found:,}")
 
     def _tiles_of(self, file: BinaryIO, piece: Slice) -> Iterator[Tuple[Address, Content]]:
-        """The tiles of a slice. What is wrong is told by the slice that it is in."""
+        """The tiles of a slice, those of a run by the first. What is wrong is told by the slice that it is in."""
         where, first, end = piece
-        place, content = 0, self._contents(file)
+        index, content = 0, self._contents(file)
         try:
             for tile_id, run, offset, length in self._directory(file, where).entries(where.low, where.high):
-                low = tile_id if place >= first else tile_id + first - place
-                place += run
-                for each in range(low, tile_id + run if place <= end else tile_id + run - (place - end)):
-                    yield Address(*place_of(each)), content(offset, length)
-                if place >= end:
+                if run and index >= first:
+                    yield Address(*place_of(tile_id), None, run), content(offset, length)
+                index += run > 0
+                if index >= end:
                     return
         except ArchiveError as why:
-            if place >= first:
+            if index >= first:
                 yield Address(None, None, None, str(where)), why
 
     def _contents(self, file: BinaryIO) -> Callable[[int, int], Union[bytes, Exception]]:
@@ -323,6 +331,6 @@ def _checked(key: Key) -> Tuple[int, int]:
     tile_id, is_fault = key
     if not (isinstance(tile_id, int) and isinstance(is_fault, int)):
         raise ValueError("a key is two numbers")
-    if not 0 <= tile_id < first_of(DEEPEST + 1) or not 0 <= is_fault <= 1:
+    if not 0 <= tile_id < MOST_TILES or not 0 <= is_fault <= 1:
         raise ValueError("a number is out of range")
     return tile_id, is_fault
