@@ -8,7 +8,9 @@ import io
 import json
 import math
 import re
+import reprlib
 import socket
+import sys
 import threading
 import time
 from collections import deque
@@ -20,6 +22,7 @@ from urllib.parse import urljoin, urlsplit
 
 import mvt
 
+from ..._shown import shown
 from ..files import MOST
 from ..unpacking import NotUnpacked, unpacked
 from . import Address, Content, Key, NotYet, Options, State, Store, StoreError
@@ -29,6 +32,10 @@ _MOST_OF_TILEJSON = 1 << 20
 _PIECE = 1 << 18
 # The latitude where the square map of the Web Mercator projection ends.
 _EDGE = 85.0511287798066
+# Bounds may lie some turns round the world.
+_MOST_DEGREES = 3600
+# A line has an address in it.
+_LONGEST = 1000
 _HOLE = re.compile(r"\{(z|x|y|-y)\}")
 _NOTHING_THERE = (204, 404)
 # So often, in seconds, it is told that an answer hasn't come yet.
@@ -102,7 +109,10 @@ class Server(Store):
             bounds = bounds or _bounds_of(self.path, said)
         holes = {hole.strip("-") for hole in _HOLE.findall(self._template)}
         if holes != {"z", "x", "y"}:
-            raise StoreError(f"{self._template}: an address of tiles has {{z}}, {{x}} and {{y}} or {{-y}} in it")
+            raise StoreError(f"{shown(self._template)}: an address of tiles has {{z}}, {{x}} and {{y}} or {{-y}} in it")
+        host = _host_of(self._template)
+        if host != _host_of(self.path):
+            _say(f"{self.path}: its tiles are those of another host, {host}")
         if zooms is None:
             raise StoreError(f"{self.path}: which zooms? say --zooms 0-14, for example")
         self._blocks = list(_blocks(zooms, bounds or (-180, -90, 180, 90)))
@@ -210,9 +220,11 @@ class Server(Store):
             for address in addresses:
                 waiting.append((address, askers.ask(self.link(address))))
                 if len(waiting) > ahead:
-                    yield from _awaited(*waiting.popleft())
+                    yield from _awaited(*waiting[0])
+                    waiting.popleft()
             while waiting:
-                yield from _awaited(*waiting.popleft())
+                yield from _awaited(*waiting[0])
+                waiting.popleft()
         finally:
             askers.drop([content for _, content in waiting])
 
@@ -228,8 +240,10 @@ class Server(Store):
             raise StoreError(f"{self.path}: {why}") from why
         except ValueError as why:
             raise StoreError(f"{self.path}: no TileJSON: {why}") from why
+        except RecursionError as why:
+            raise StoreError(f"{self.path}: no TileJSON: its brackets are nested too deeply") from why
         if answer.status != 200:
-            raise StoreError(f"{self.path}: {answer.status} {answer.reason}")
+            raise StoreError(f"{self.path}: {answer.status} {shown(answer.reason)}")
         if not isinstance(said, dict):
             raise StoreError(f"{self.path}: no TileJSON, and no address with {{z}}, {{x}} and {{y}} in it")
         return said
@@ -307,9 +321,9 @@ class _Client:
         if answer.status in _NOTHING_THERE:
             return None
         if answer.status != 200:
-            return ServerError(f"{answer.status} {answer.reason}".strip())
+            return ServerError(f"{answer.status} {shown(answer.reason)}".strip())
         if answer.encoding not in ("", "identity", "gzip", "x-gzip"):
-            return ServerError(f"it answers in the encoding {answer.encoding}")
+            return ServerError(f"it answers in the encoding {shown(answer.encoding)}")
         return answer.body
 
     def answer(self, address: str, most: int) -> Answer:
@@ -349,6 +363,7 @@ class _Connection:
         self.server = scheme, netloc
         self._http: Any = kind(netloc)
         self._http.response_class = self._response
+        self._sock: Optional[socket.socket] = None
         self._ends, self._is_ended = 0.0, False
 
     def is_open(self) -> bool:
@@ -359,7 +374,7 @@ class _Connection:
 
     def end(self) -> None:
         """Ends what another thread asks. That thread closes the connection."""
-        self._is_ended, sock = True, self._http.sock
+        self._is_ended, sock = True, self._sock
         if sock is not None:
             with suppress(OSError):
                 socket.socket.shutdown(sock, socket.SHUT_RDWR)
@@ -369,17 +384,20 @@ class _Connection:
         if not self.is_open():
             self._http.timeout = timeout
             self._http.connect()
+            self._sock = self._http.sock
         self._http.sock.settimeout(timeout)
         try:
             if self._is_ended:
                 raise ConnectionAbortedError(errno.ECONNABORTED, "nobody waits for it any more")
             self._http.request("GET", path, headers=_HEADERS)
             response = self._http.getresponse()
-            body = _body_of(response, most)
+            with response:
+                body = _body_of(response, most)
+                is_whole = response.isclosed()
         except BaseException:
             self._http.close()
             raise
-        if not response.isclosed():
+        if not is_whole:
             # The rest is neither wanted nor waited for.
             self._http.close()
         encoding = (response.getheader("Content-Encoding") or "").strip().lower()
@@ -407,13 +425,18 @@ class _Timed(io.RawIOBase):
     """What comes over a socket until a time."""
 
     def __init__(self, sock: socket.socket, ends: float) -> None:
-        self._sock, self._ends = sock, ends
+        # A connection that ends with its answer closes the socket at the head of it, which a file of it holds open.
+        self._sock, self._held, self._ends = sock, sock.makefile("rb", buffering=0), ends
 
     def makefile(self, mode: str) -> io.BufferedReader:
         return io.BufferedReader(self)
 
     def readable(self) -> bool:
         return True
+
+    def close(self) -> None:
+        self._held.close()
+        super().close()
 
     def readinto(self, room: Any) -> int:
         left = self._ends - time.monotonic()
@@ -446,15 +469,37 @@ def _told(why: Exception, timeout: float) -> str:
     if isinstance(why, http.client.RemoteDisconnected):
         return "the server ended the connection and answered nothing"
     if isinstance(why, http.client.HTTPException):
-        return f"no HTTP: {type(why).__name__} {why}".strip()
-    return (why.strerror if isinstance(why, OSError) else None) or str(why) or type(why).__name__
+        return f"no HTTP: {type(why).__name__} {shown(str(why).strip())}".strip()
+    return (why.strerror if isinstance(why, OSError) else None) or shown(str(why)) or type(why).__name__
 
 
 def _plain(answer: Answer) -> bytes:
     try:
-        return unpacked(answer.body)
+        plain = unpacked(answer.body)
     except NotUnpacked as why:
         raise ServerError(f"its gzip doesn't unpack: {why}") from why
+    if len(plain) > _MOST_OF_TILEJSON:
+        raise ServerError(f"no TileJSON: it has more than {_MOST_OF_TILEJSON:,} bytes")
+    return plain
+
+
+def _host_of(address: str) -> str:
+    """The host and the port of an address. Raises StoreError where it has none that can be asked."""
+    try:
+        told = urlsplit(address)
+        host, port = told.hostname, told.port
+    except ValueError as why:
+        raise StoreError(f"{shown(address)}: no address: {shown(str(why))}") from why
+    if not host:
+        raise StoreError(f"{shown(address)}: no address: it names no host")
+    return f"{host}:{port or (443 if told.scheme == 'https' else 80)}"
+
+
+def _say(line: str) -> None:
+    """A line for whoever started the command, which goes on."""
+    if sys.stderr is not None:
+        with suppress(OSError):
+            print(shown(line, _LONGEST), file=sys.stderr, flush=True)
 
 
 def _template_of(path: str, said: Dict[str, Any]) -> str:
@@ -462,16 +507,19 @@ def _template_of(path: str, said: Dict[str, Any]) -> str:
     tiles = said.get("tiles")
     if not isinstance(tiles, list) or not tiles or not isinstance(tiles[0], str):
         raise StoreError(f"{path}: this TileJSON has no 'tiles'")
-    template = urljoin(path, tiles[0])
+    try:
+        template = urljoin(path, tiles[0])
+    except ValueError as why:
+        raise StoreError(f"{path}: its tiles have no address: {shown(str(why))}") from why
     if not template.startswith(("http://", "https://")):
-        raise StoreError(f"{path}: its tiles have the address {template!r}, which is none of HTTP")
+        raise StoreError(f"{path}: its tiles have the address {shown(repr(template))}, which is none of HTTP")
     return template.replace("{y}", "{-y}") if said.get("scheme") == "tms" else template
 
 
 def _zooms_of(path: str, said: Dict[str, Any]) -> Tuple[int, int]:
     zooms = said.get("minzoom", 0), said.get("maxzoom", DEEPEST)
     if not all(isinstance(zoom, int) and 0 <= zoom <= DEEPEST for zoom in zooms) or zooms[0] > zooms[1]:
-        raise StoreError(f"{path}: this TileJSON says the zooms {zooms[0]!r} to {zooms[1]!r}")
+        raise StoreError(f"{path}: this TileJSON says the zooms {shown(reprlib.repr(zooms))}")
     if "maxzoom" not in said:
         raise StoreError(f"{path}: this TileJSON has no 'maxzoom'; say --zooms 0-14, for example")
     return zooms
@@ -481,10 +529,16 @@ def _bounds_of(path: str, said: Dict[str, Any]) -> Optional[Tuple[float, float, 
     bounds = said.get("bounds")
     if bounds is None:
         return None
-    if not isinstance(bounds, list) or len(bounds) != 4 or not all(isinstance(each, (int, float)) for each in bounds):
-        raise StoreError(f"{path}: this TileJSON says the bounds {bounds!r}")
+    if not isinstance(bounds, list) or len(bounds) != 4 or not all(map(_is_degrees, bounds)):
+        raise StoreError(f"{path}: this TileJSON says the bounds {shown(reprlib.repr(bounds))}")
     west, south, east, north = map(float, bounds)
     return west, south, east, north
+
+
+def _is_degrees(told: Any) -> bool:
+    """Whether it is a number that may be degrees: none that is infinite or no number at all. What lies beyond the edge of
+    the map is cut off there."""
+    return isinstance(told, (int, float)) and abs(told) <= _MOST_DEGREES
 
 
 def _blocks(zooms: Tuple[int, int], bounds: Tuple[float, float, float, float]) -> Iterator[Block]:
