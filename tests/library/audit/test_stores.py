@@ -145,7 +145,9 @@ class Stores(Case):
         at = content.index(b"0250" * 200) // 4096 * 4096
         content[at : at + 4096] = bytes(4096)
         path.write_bytes(content)
-        found = [each for part in all_of(stores.opened(str(path)), 100) for each in part]
+        store = stores.opened(str(path))
+        store.state()
+        found = [each for part in all_of(store, 100) for each in part]
         read = {(address.z, address.x, address.y): tile for address, tile in found if isinstance(tile, bytes)}
         self.assertEqual(len(found), 500)
         self.assertTrue(490 <= len(read) < 500, len(read))

@@ -1,21 +1,51 @@
 """An MBTiles file. It is opened for reading only, and its rows are counted from the south, as MBTiles does."""
 
+import errno
 import hashlib
 import os
+import reprlib
 import sqlite3
 from contextlib import closing
-from pathlib import Path
-from typing import Any, Iterator, List, Optional, Tuple
+from typing import Any, Iterator, List, NamedTuple, Optional, Tuple, Union
 
+from ..._shown import shown
 from .. import files
 from ..files import MOST
+from ..sqlite import Watched
 from . import Address, Content, Key, Options, State, Store, StoreError
 
 _MAGIC = b"SQLite format 3\0"
 _PLACE = ("zoom_level", "tile_column", "tile_row")
+_BITS = 1 << 63
+# From this zoom on a row that is counted from the other end has more than 64 bits.
+_DEEPEST = 62
 
-# A range: the first key, and the first behind it, or None at the end.
-Range = Tuple[Key, Optional[Key]]
+
+class Spot(NamedTuple):
+    """Where a row stands in the order of rows: so many behind the first one that has some values. None are those of the
+    front."""
+
+    values: Optional[Key]
+    behind: int = 0
+
+    def key(self) -> Key:
+        if self.values is None:
+            return "", self.behind
+        return (*self.values, self.behind) if self.behind else self.values
+
+
+class Rows(NamedTuple):
+    """A range of row numbers, from one up to another one and with it."""
+
+    first: int
+    last: int
+
+
+class Some(NamedTuple):
+    """A range of so many rows in the order of z, x and y."""
+
+    spot: Spot
+    count: int
 
 
 def opened(path: str, options: Options = Options()) -> Optional["MBTiles"]:
@@ -29,100 +59,93 @@ class MBTiles(Store):
 
     def __init__(self, path: str) -> None:
         self.path = os.path.abspath(path)
-        self._by_rowid = True
+        # The name of the numbers of rows, where these part the tiles.
+        self._numbers: Optional[str] = None
 
     def check(self) -> None:
         self._check_file()
         try:
-            with closing(self._connect()) as database:
+            with closing(Watched(self.path)) as database:
                 self._check_tables(database)
         except sqlite3.Error as why:
-            raise StoreError(f"{self.path}: {why}") from why
+            raise self._error(why) from why
 
     def state(self) -> State:
         self.check()
         try:
-            with closing(self._connect()) as database:
+            with closing(Watched(self.path)) as database:
                 tiles = self._survey(database)
         except sqlite3.Error as why:
-            raise StoreError(f"{self.path}: {why}") from why
+            raise self._error(why) from why
         return State(tiles, self._digest())
 
-    def ranges(self, size: int) -> Iterator[Range]:
-        with closing(self._connect()) as database:
-            yield from self._spans(database, size) if self._by_rowid else self._steps(database, size)
-
-    def tiles(self, part: Range) -> Iterator[Tuple[Address, Content]]:
-        last: Optional[Key] = None
+    def ranges(self, size: int) -> Iterator[Union[Rows, Some]]:
         try:
-            with closing(self._connect()) as database:
-                for last, address, content in self._rows(database, self._keys(), part):
-                    yield address, content
+            with closing(Watched(self.path)) as database:
+                yield from self._spans(database, size) if self._numbers else _steps(database, size)
         except sqlite3.Error as why:
-            yield from self._unread(part, last, why)
+            raise self._error(why) from why
+
+    def tiles(self, part: Union[Rows, Some]) -> Iterator[Tuple[Address, Content]]:
+        try:
+            with closing(Watched(self.path)) as database:
+                if isinstance(part, Rows):
+                    yield from self._numbered(database, part)
+                else:
+                    for _, address, content in _told(database, _PLACE, *part):
+                        yield address, content
+        except sqlite3.Error as why:
+            yield Address(None, None, None, "tiles"), why
 
     def tile(self, address: Address) -> bytes:
-        column = None if address.y is None else _turned(address.z, address.y)
-        query = f"select tile_data from tiles where {_equal(_PLACE)}"
-        try:
-            with closing(self._connect()) as database:
-                found = database.execute(query, (address.z, address.x, column)).fetchone()
-        except sqlite3.Error as why:
-            raise OSError(f"{self.path}: {why}") from why
-        if found is None:
+        if address.z is None or address.x is None or address.y is None:
             raise FileNotFoundError(f"{self.path}: no tile {address}")
-        return _bytes(found[0])
+        return self._held((address.z, address.x, _turned(address.z, address.y)), _PLACE)
 
-    # A key for `since` is a place, or a row's number where no index has the places in order.
+    # A key is a place, or a row's number where no index has the places in order; and behind it how many rows further, where
+    # a row has no place of its own.
 
     def since(self, key: Optional[Key]) -> Iterator[Tuple[Key, Address, Content]]:
-        while True:
-            last: Optional[Key] = None
-            try:
-                with closing(self._connect()) as database:
-                    for last, address, content in self._rows(database, _order(database), (key, None)):
-                        yield last, address, content
-                return
-            except sqlite3.Error as why:
-                unread = self._unread_keys(key, last)
-                yield unread[0] if unread else last or key or (), _address_of(unread[:1]), why
-                if len(unread) < 2:
-                    return
-                key = unread[1]
+        try:
+            with closing(Watched(self.path)) as database:
+                order = _order(database)
+                for spot, address, content in _told(database, order, Spot(None) if key is None else _spot(order, key)):
+                    yield spot.key(), address, content
+        except sqlite3.Error as why:
+            yield key or ("", 0), Address(None, None, None, "tiles"), why
 
     def find(self, z: int, x: int, y: int) -> Optional[Key]:
         try:
-            with closing(self._connect()) as database:
+            with closing(Watched(self.path)) as database:
                 query = f"select {', '.join(_order(database))} from tiles where {_equal(_PLACE)}"
-                found: Optional[Key] = database.execute(query, (z, x, _turned(z, y))).fetchone()
+                return database.row(query, (z, x, _turned(z, y)))
         except sqlite3.Error as why:
-            raise OSError(f"{self.path}: {why}") from why
-        return found
+            raise OSError(errno.EIO, shown(str(why))) from why
 
     def held(self, key: Key) -> bytes:
-        try:
-            with closing(self._connect()) as database:
-                order = _order(database)
-                query = f"select {_DATA} from tiles where {_equal(order)}"
-                found = database.execute(query, _checked(order, key)).fetchone()
-        except sqlite3.Error as why:
-            raise OSError(f"{self.path}: {why}") from why
-        if found is None:
-            raise FileNotFoundError(f"{self.path}: no tile {key}")
-        return _bytes(found[0])
+        return self._held(key)
 
-    def _connect(self) -> sqlite3.Connection:
+    def _held(self, key: Key, order: Optional[Tuple[str, ...]] = None) -> bytes:
         try:
-            files.opened(self.path).close()  # SQLite would wait for a pipe
-        except OSError as why:
-            raise sqlite3.OperationalError(why.strerror) from why
-        return sqlite3.connect(f"{Path(self.path).as_uri()}?mode=ro", uri=True)
+            with closing(Watched(self.path)) as database:
+                order = order or _order(database)
+                found = _one(database, order, _spot(order, key))
+        except sqlite3.Error as why:
+            raise OSError(errno.EIO, shown(str(why))) from why
+        if found is None:
+            raise FileNotFoundError(errno.ENOENT, "no such tile")
+        if isinstance(found, Exception):
+            raise OSError(errno.EIO, str(found)) from found
+        return found
+
+    def _error(self, why: Exception) -> StoreError:
+        return StoreError(f"{self.path}: {shown(str(why))}")
 
     def _check_file(self) -> None:
         """What SQLite tells in words that say little."""
         try:
             with files.opened(self.path) as file:
-                head, size = file.read(100), os.fstat(file.fileno()).st_size
+                head, size = file.read(100) or b"", os.fstat(file.fileno()).st_size
         except OSError as why:
             raise StoreError(f"{self.path}: {why.strerror}") from why
         if not head.startswith(_MAGIC):
@@ -132,31 +155,35 @@ class MBTiles(Store):
         if size < wanted and head[24:28] == head[92:96]:
             raise StoreError(f"{self.path}: cut off: {size:,} of {wanted:,} bytes are there")
 
-    def _check_tables(self, database: sqlite3.Connection) -> None:
+    def _check_tables(self, database: Watched) -> None:
         try:
-            database.execute(f"select {', '.join(_PLACE)}, tile_data from tiles limit 0")
+            database.row(f"select {', '.join(_PLACE)}, tile_data from tiles limit 0")
         except sqlite3.OperationalError as why:
-            raise StoreError(f"{self.path}: no MBTiles: {why}") from why
+            raise StoreError(f"{self.path}: no MBTiles: {shown(str(why))}") from why
         try:
-            told = database.execute("select value from metadata where name = 'format'").fetchone()
+            told = database.row("select value from metadata where name = 'format'")
         except sqlite3.OperationalError:
             told = None
         if told is not None and told[0] not in ("pbf", "mvt"):
-            raise StoreError(f"{self.path}: its tiles are of the format {told[0]!r}, and not of 'pbf'")
-        if database.execute("select 1 from tiles limit 1").fetchone() is None:
+            raise StoreError(f"{self.path}: its tiles are of the format {shown(reprlib.repr(told[0]))}, and not of 'pbf'")
+        if database.row("select 1 from tiles limit 1") is None:
             raise StoreError(f"{self.path}: no tiles in this MBTiles file")
 
-    def _survey(self, database: sqlite3.Connection) -> int:
-        """Counts the tiles, and chooses how they are parted: by row ids where these lie close together."""
-        [tiles] = database.execute("select count(*) from tiles").fetchone()
-        self._by_rowid = False
-        if _has_rows(database):
-            try:
-                low, high = database.execute("select min(rowid), max(rowid) from tiles").fetchone()
-                self._by_rowid = high - low < 8 * tiles
-            except sqlite3.OperationalError:
-                pass  # a table without row ids
+    def _survey(self, database: Watched) -> int:
+        """Counts the tiles, and chooses how they are parted: by row numbers where these lie close together. (SQLite counts by
+        `count(*)` in one step, which can't be ended.)"""
+        [tiles] = database.row("select count(1) from tiles") or (0,)
+        self._numbers = _numbers(database)
+        if self._numbers:
+            low, high = self._ends(database)
+            if low is None or high - low >= 8 * tiles:
+                self._numbers = None
         return int(tiles)
+
+    def _ends(self, database: Watched) -> Tuple[Any, ...]:
+        """The first and the last number of a row."""
+        ends = f"select (select min({self._numbers}) from tiles), (select max({self._numbers}) from tiles)"
+        return database.row(ends) or (None, None)
 
     def _digest(self) -> str:
         """Of the file's size and times and SQLite's count of changes, and of the log that may stand beside it."""
@@ -166,123 +193,204 @@ class MBTiles(Store):
                 digest.update(f"{os.path.getsize(path)} {os.stat(path).st_mtime_ns}\n".encode())
         return digest.hexdigest()
 
-    def _keys(self) -> Tuple[str, ...]:
-        return ("rowid",) if self._by_rowid else _PLACE
-
-    def _spans(self, database: sqlite3.Connection, size: int) -> Iterator[Range]:
-        """Ranges of row ids. Each begins at a row that is there."""
-        low, high = database.execute("select min(rowid), max(rowid) from tiles").fetchone()
+    def _spans(self, database: Watched, size: int) -> Iterator[Rows]:
+        """Ranges of row numbers. Each begins at a row that is there."""
+        low, high = self._ends(database)
+        query = f"select {self._numbers} from tiles where {self._numbers} > ? order by {self._numbers} limit 1"
         while low is not None and low <= high:
-            yield (low,), (low + size,)
+            last = min(low + size - 1, high)
+            yield Rows(low, last)
             try:
-                query = "select rowid from tiles where rowid >= ? order by rowid limit 1"
-                low = next(iter(database.execute(query, (low + size,)).fetchone() or [None]))
+                [low] = database.row(query, (last,)) or (None,)
             except sqlite3.DatabaseError:
-                low += size  # a damaged page, which its range tells
+                low = last + 1  # a damaged page, which its range tells
 
-    def _steps(self, database: sqlite3.Connection, size: int) -> Iterator[Range]:
-        """Ranges of so many tiles each, in the order of z, x and y."""
-        keys = ", ".join(_PLACE)
-        found: Optional[Key] = database.execute(f"select {keys} from tiles order by {keys} limit 1").fetchone()
-        query = f"select {keys} from tiles where ({keys}) >= (?, ?, ?) order by {keys} limit 1 offset ?"
-        while found is not None:
-            first = found
-            found = database.execute(query, (*first, size)).fetchone()
-            yield first, found
-
-    def _rows(
-        self, database: sqlite3.Connection, keys: Tuple[str, ...], part: Tuple[Optional[Key], Optional[Key]]
-    ) -> Iterator[Tuple[Key, Address, Content]]:
-        first, end = part
-        bounds = [_bound(keys, sign) for sign, key in ((">=", first), ("<", end)) if key is not None]
-        where = f" where {' and '.join(bounds)}" if bounds else ""
-        query = f"select {', '.join((*keys, *_PLACE, _DATA))} from tiles{where} order by {', '.join(keys)}"
-        values = (*(() if first is None else _checked(keys, first)), *(end or ()))
-        for row in database.execute(query, values):
-            yield row[: len(keys)], _address(*row[-4:-1]), _bytes(row[-1])
-
-    def _unread_keys(self, first: Optional[Key], last: Optional[Key]) -> List[Key]:
-        """The key behind the last that was read, or from the first on, and the one behind that, if they can be told."""
+    def _numbered(self, database: Watched, part: Rows) -> Iterator[Tuple[Address, Content]]:
+        """The rows of a range, and row by row what stands behind one that can't be read."""
+        number = self._numbers
+        query = f"select {_selected(number)} from tiles where {number} between ? and ?"
+        last = part.first - 1
         try:
-            with closing(self._connect()) as database:
-                keys, key = _order(database), last or first
-                where = "" if key is None else f" where {_bound(keys, '>' if last else '>=')}"
-                query = f"select {', '.join(keys)} from tiles{where} order by {', '.join(keys)} limit 2"
-                return database.execute(query, key or ()).fetchall()
-        except sqlite3.Error:
-            return []
-
-    def _unread(self, part: Range, last: Optional[Key], why: sqlite3.Error) -> Iterator[Tuple[Address, Content]]:
-        """The rest of a range behind a row that can't be read: row by row, where rows have numbers."""
-        (first, end) = part
-        if not self._by_rowid or end is None:
-            told = f"tiles from {last or first} on" + (f" to {end}" if end else "")
-            yield Address(None, None, None, told), why
+            for row in database.rows(f"{query} order by {number}", part):
+                last = row[0]
+                yield _address(*row[1:4]), _content(database, row)
             return
-        for row in range(first[0] if last is None else last[0] + 1, end[0]):
+        except sqlite3.Error:
+            pass
+        for last in range(last + 1, part.last + 1):
             try:
-                with closing(self._connect()) as database:
-                    found = list(self._rows(database, ("rowid",), ((row,), (row + 1,))))
-            except sqlite3.Error as error:
-                yield Address(None, None, None, f"row {row}"), error
+                found = list(database.rows(query, (last, last)))
+            except sqlite3.Error as why:
+                yield Address(None, None, None, f"row {last}"), why
             else:
-                yield from ((address, content) for _, address, content in found)
+                yield from ((_address(*row[1:4]), _content(database, row)) for row in found)
 
 
-_DATA = f"case when length(tile_data) > {MOST} then substr(tile_data, 1, {MOST}) else tile_data end"
+def _told(
+    database: Watched, order: Tuple[str, ...], spot: Spot, count: int = -1
+) -> Iterator[Tuple[Spot, Address, Content]]:
+    """So many rows from one on, or all, in an order; and what can't be read, row by row."""
+    while count:
+        try:
+            for spot, address, content in _rows(database, order, spot, count):
+                yield spot, address, content
+                spot, count = spot._replace(behind=spot.behind + 1), count - 1
+            return
+        except sqlite3.Error as why:
+            places = _places(database, order, spot)
+            yield spot, places[0] if places else Address(None, None, None, "the tiles behind"), why
+            if len(places) < 2:
+                return
+            spot, count = spot._replace(behind=spot.behind + 1), count - 1
 
 
-def _has_rows(database: sqlite3.Connection) -> bool:
-    """Whether the tiles are a table, and no view."""
-    kind = database.execute("select type from sqlite_master where name = 'tiles'").fetchone()
-    return bool(kind == ("table",))
+def _rows(database: Watched, order: Tuple[str, ...], spot: Spot, count: int) -> Iterator[Tuple[Spot, Address, Content]]:
+    """The rows from one on. A row's spot is its own where it has a place that no other one has, and else is counted from
+    the one before it that has."""
+    values, behind = spot
+    columns = slice(1, 4) if order == _PLACE else slice(0, 1)
+    numbers = (int,) * len(order)
+    where, bound = _from(order, spot)
+    for row in database.rows(f"select {_selected(_numbers(database))} from tiles {where} limit {count} offset {behind}", bound):
+        found = row[columns]
+        if found != values and tuple(map(type, found)) == numbers:
+            values, behind = found, 0
+        yield Spot(values, behind), _address(*row[1:4]), _content(database, row)
+        behind += 1
 
 
-def _order(database: sqlite3.Connection) -> Tuple[str, ...]:
-    """By what tiles come one after another without being sorted: their places, or else the numbers of rows."""
-    columns = ", ".join(_PLACE)
-    plan = database.execute(f"explain query plan select 1 from tiles order by {columns} limit 1").fetchall()
-    if not any("TEMP B-TREE" in str(step[-1]) for step in plan) or not _has_rows(database):
-        return _PLACE
+def _places(database: Watched, order: Tuple[str, ...], spot: Spot) -> List[Address]:
+    """Where a row that can't be read stands, and the one behind it, if that can be told."""
+    where, bound = _from(order, spot)
+    columns = ", ".join(map(_named, order))
     try:
-        database.execute("select rowid from tiles limit 0")
-    except sqlite3.OperationalError:
-        return _PLACE  # a table without row ids
-    return ("rowid",)
+        rows = list(database.rows(f"select {columns} from tiles {where} limit 2 offset {spot.behind}", bound))
+    except sqlite3.Error:
+        return []
+    return [_address(*row) if order == _PLACE else Address(None, None, None, f"row {row[0]}") for row in rows]
+
+
+def _one(database: Watched, order: Tuple[str, ...], spot: Spot) -> Optional[Union[bytes, Exception]]:
+    """The tile of a row."""
+    where, bound = _from(order, spot)
+    if spot.values is not None and not spot.behind:
+        where = f"where {_equal(order)}"
+    row = database.row(f"select {_selected(_numbers(database))} from tiles {where} limit 1 offset {spot.behind}", bound)
+    return None if row is None else _content(database, row)
+
+
+def _steps(database: Watched, size: int) -> Iterator[Some]:
+    """Ranges of so many rows each, in the order of z, x and y. Each begins at a place of its own if it can."""
+    spot = Spot(None)
+    columns = ", ".join(map(_named, _PLACE))
+    while True:
+        yield Some(spot, size)
+        where, bound = _from(_PLACE, spot)
+        behind = spot.behind + size
+        last, *found = [*database.rows(f"select {columns} from tiles {where} limit 2 offset {behind - 1}", bound), None]
+        if not found or found[0] is None:
+            return
+        is_place = found[0] != last and all(type(each) is int for each in found[0])
+        spot = Spot(found[0]) if is_place else Spot(spot.values, behind)
+
+
+# What a value may be: a number, or the front of what else it is as a text.
+def _named(column: str) -> str:
+    return f"case typeof({column}) when 'integer' then {column} else substr(cast({column} as text), 1, 100) end"
+
+
+_DATA = f"case when length(tile_data) <= {MOST} then tile_data end, length(tile_data)"
+
+
+def _selected(numbers: Optional[str]) -> str:
+    """The columns of a row: its number, its place, its data if that isn't too much, and how much it is."""
+    return ", ".join((numbers or "null", *map(_named, _PLACE), _DATA))
+
+
+def _numbers(database: Watched) -> Optional[str]:
+    """The name of the numbers of rows: the first that no column has; None where rows have none, as in a view."""
+    if database.row("select 1 from sqlite_master where lower(name) = 'tiles' and type = 'table' and rootpage > 0") is None:
+        return None
+    columns = {str(row[1]).lower() for row in database.rows("pragma table_xinfo(tiles)")}
+    for name in ("rowid", "_rowid_", "oid"):
+        if name not in columns:
+            try:
+                database.row(f"select {name} from tiles limit 0")
+            except sqlite3.OperationalError:
+                return None  # a table without row numbers
+            return name
+    return None
+
+
+def _order(database: Watched) -> Tuple[str, ...]:
+    """By what tiles come one after another without being sorted: their places, or else the numbers of rows."""
+    plan = database.rows(f"explain query plan select 1 from tiles order by {', '.join(_PLACE)} limit 1")
+    is_sorted = any("TEMP B-TREE" in str(step[-1]) for step in plan)
+    numbers = _numbers(database) if is_sorted else None
+    return (numbers,) if numbers else _PLACE
 
 
 def _equal(columns: Tuple[str, ...]) -> str:
     return " and ".join(f"{column} = ?" for column in columns)
 
 
-def _bound(columns: Tuple[str, ...], sign: str) -> str:
-    return f"({', '.join(columns)}) {sign} ({', '.join('?' * len(columns))})"
+def _from(order: Tuple[str, ...], spot: Spot) -> Tuple[str, Key]:
+    """The rows from a spot's values on, in order, and what is bound."""
+    names = ", ".join(order)
+    if spot.values is None:
+        return f"order by {names}", ()
+    return f"where ({names}) >= ({', '.join('?' * len(order))}) order by {names}", spot.values
 
 
-def _checked(columns: Tuple[str, ...], key: Key) -> Key:
-    """A key that SQLite takes."""
-    if len(key) != len(columns) or any(isinstance(each, int) and abs(each) >= 1 << 63 for each in key):
+def _spot(order: Tuple[str, ...], key: Key) -> Spot:
+    """The spot of a key. Raises ValueError where it is none."""
+    values, behind = key[: len(order)], (*key[len(order) :], 0)
+    if key[:1] == ("",):
+        values, behind = None, (*key[1:], 0)
+    if len(behind) > 2 or len(key) == 1 and values is None:
         raise ValueError("no key of an MBTiles file")
-    return key
+    if not all(isinstance(each, int) and -_BITS <= each < _BITS for each in (*(values or ()), *behind)) or behind[0] < 0:
+        raise ValueError("no key of an MBTiles file")
+    if values is not None and len(values) != len(order):
+        raise ValueError("no key of an MBTiles file")
+    return Spot(values, behind[0])
 
 
-def _address_of(keys: List[Key]) -> Address:
-    """What is told of a row that can't be read, by its key."""
-    for key in keys:
-        return _address(*key) if len(key) == len(_PLACE) else Address(None, None, None, f"row {key[0]}")
-    return Address(None, None, None, "the tiles behind")
+def _content(database: Watched, row: Tuple[Any, ...]) -> Union[bytes, Exception]:
+    """The tile of a row, as `_selected` has it."""
+    data, size = row[4:]
+    if data is not None:
+        return data if isinstance(data, bytes) else str(data).encode("utf-8", "surrogateescape")
+    return b"" if size is None else _large(database, row[0], size)
 
 
-def _bytes(data: Any) -> bytes:
-    return data if isinstance(data, bytes) else b"" if data is None else str(data).encode("utf-8", "surrogateescape")
+def _large(database: Watched, number: Optional[int], size: int) -> Union[bytes, Exception]:
+    """The front of a large tile, which decides: of one that stands in the file. What a view makes isn't made."""
+    if number is not None and hasattr(database, "blobopen"):  # from Python 3.11 on
+        try:
+            with database.blobopen("tiles", "tile_data", number, readonly=True) as blob:
+                front: bytes = blob.read(MOST)
+                return front
+        except sqlite3.Error:
+            pass
+    return StoreError(f"it has {size:,} bytes, and {MOST:,} are read of a tile at most")
 
 
-def _turned(z: Optional[int], y: int) -> int:
+def _turned(z: int, y: int) -> int:
     """A row counted from the other end."""
-    return (1 << (z or 0)) - 1 - y
+    return (1 << z) - 1 - y
 
 
 def _address(z: Any, x: Any, row: Any) -> Address:
-    if isinstance(z, int) and isinstance(x, int) and isinstance(row, int) and 0 <= z < 64:
-        return Address(z, x, _turned(z, row))
-    return Address(None, None, None, f"{z}/{x}/{row}")
+    """Where a row stands: a place, with a name too where its zoom doesn't have it; a name where it is none."""
+    if type(z) is type(x) is type(row) is int and 0 <= z <= _DEEPEST:
+        y = _turned(z, row)
+        if 0 <= x < 1 << z and 0 <= y < 1 << z:
+            return Address(z, x, y)
+        if -_BITS <= y < _BITS:
+            return Address(z, x, y, f"{z}/{x}/{y}")
+    return Address(None, None, None, f"{_spelled(z)}/{_spelled(x)}/{_spelled(row)}")
+
+
+def _spelled(value: Any) -> str:
+    return str(value).encode("utf-8", "surrogateescape").decode("utf-8", "backslashreplace")

@@ -1,0 +1,112 @@
+"""SQLite files that somebody else made, open for reading. A schema may have views that never end, values that a few bytes
+make a gigabyte of, and functions that take for ever: all of these end in an sqlite3.Error, and Ctrl-C comes through."""
+
+import errno
+import os
+import sqlite3
+import stat
+import time
+from contextlib import closing
+from pathlib import Path
+from typing import Any, Iterator, Optional, Tuple
+
+from . import files
+from .stores.waiting import alive
+
+# So many seconds the next row may take, and one more for so many bytes of the file.
+PATIENCE, BYTES_A_SECOND = 10.0, 1_000_000
+# After so many steps of SQLite's machine, about a millisecond, is looked whether it goes on.
+_STEPS = 10_000
+# What one value may have.
+_LONGEST = files.MOST + (1 << 20)
+# So much a question may name, views within views included: one of a few lines makes millions of them.
+_MOST_NAMED = 2000
+# What views of tiles call. Other functions may take for ever in one step.
+_FUNCTIONS = set("abs coalesce count ifnull iif length lower max min nullif substr substring sum total typeof upper zeroblob".split())
+_WAL = b"\2\2"
+
+
+class Watched(sqlite3.Connection):
+    """A connection to a stranger's file."""
+
+    def __init__(self, path: str) -> None:
+        """Raises sqlite3.Error where there is no file that can be waited for."""
+        where, is_alone = _where(path)
+        super().__init__(where, uri=True, isolation_level=None)
+        self.execute("pragma trusted_schema = off")
+        self.execute("pragma cell_size_check = on")
+        if is_alone:
+            self.execute("pragma locking_mode = exclusive")
+        if hasattr(self, "setlimit"):  # from Python 3.11 on
+            self.setlimit(sqlite3.SQLITE_LIMIT_LENGTH, _LONGEST)
+        self.text_factory = _text
+        self._seconds = PATIENCE + os.path.getsize(path) / BYTES_A_SECOND
+        self._ends, self._named = 0.0, 0
+        self._why: Optional[BaseException] = None
+        self.set_authorizer(self._allowed)
+        self.set_progress_handler(self._looks().__next__, _STEPS)
+
+    def rows(self, query: str, values: Tuple[Any, ...] = ()) -> Iterator[Tuple[Any, ...]]:
+        """What is found, row by row. Raises sqlite3.Error, also where the next row doesn't come in its time, and what ends
+        the command or the question."""
+        self._named = 0
+        self._ends = time.monotonic() + self._seconds
+        try:
+            for row in self.execute(query, values):
+                yield row
+                self._ends = time.monotonic() + self._seconds
+        except UnicodeDecodeError as error:  # a name in a damaged schema
+            raise sqlite3.DatabaseError(str(error)) from error
+        except sqlite3.Error as error:
+            why, self._why = self._why, None
+            if why is not None:
+                raise why from error
+            if time.monotonic() > self._ends:
+                raise sqlite3.OperationalError(f"no answer within {self._seconds:.0f} seconds") from error
+            raise
+
+    def row(self, query: str, values: Tuple[Any, ...] = ()) -> Optional[Tuple[Any, ...]]:
+        """The first of them, if there is one."""
+        with closing(self.rows(query, values)) as found:  # type: ignore[type-var]
+            return next(found, None)
+
+    def _looks(self) -> Iterator[bool]:
+        """Whether SQLite has to end. What a signal raises is kept, which SQLite would drop: it is raised where Python goes
+        on, and that is within this `try`, while a function's would be raised before its first line."""
+        try:
+            while True:
+                alive()
+                yield time.monotonic() > self._ends
+        except GeneratorExit:
+            return
+        except BaseException as why:
+            self._why = why
+        while True:
+            yield True
+
+    def _allowed(self, action: int, _: Optional[str], function: Optional[str], *others: Optional[str]) -> int:
+        self._named += 1
+        is_known = action != sqlite3.SQLITE_FUNCTION or str(function).lower() in _FUNCTIONS
+        return sqlite3.SQLITE_OK if is_known and self._named <= _MOST_NAMED else sqlite3.SQLITE_DENY
+
+
+def _where(path: str) -> Tuple[str, bool]:
+    """What SQLite opens, and whether this connection is alone with it. Nothing appears beside the file: where a log stands
+    there and nobody has it open, SQLite reads it without the file that several would share; where none stands there, a file
+    that wants one is read as it is."""
+    try:
+        files.opened(path).close()
+        for end in ("-journal", "-wal", "-shm"):
+            if os.path.lexists(path + end) and not stat.S_ISREG(os.stat(path + end).st_mode):
+                raise OSError(errno.EINVAL, f"the {end[1:]} beside it is no file")
+    except OSError as why:
+        raise sqlite3.OperationalError(why.strerror) from why
+    address = f"{Path(path).as_uri()}?mode=ro"
+    if os.path.exists(path + "-wal") and os.path.getsize(path + "-wal"):
+        is_alone = not os.path.exists(path + "-shm")
+        return (f"{address}&vfs=unix-none", True) if is_alone else (address, False)
+    return (f"{address}&immutable=1" if files.front(path, 20)[18:] == _WAL else address), False
+
+
+def _text(content: bytes) -> str:
+    return content.decode("utf-8", "surrogateescape")
