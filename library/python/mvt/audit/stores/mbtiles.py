@@ -17,8 +17,8 @@ from . import Address, Content, Key, Options, State, Store, StoreError
 _MAGIC = b"SQLite format 3\0"
 _PLACE = ("zoom_level", "tile_column", "tile_row")
 _BITS = 1 << 63
-# From this zoom on a row that is counted from the other end has more than 64 bits.
-_DEEPEST = 62
+# How many rows a zoom has, which a number of 64 bits has to tell.
+_SIDES = {z: 1 << z for z in range(63)}
 
 
 class Spot(NamedTuple):
@@ -27,11 +27,6 @@ class Spot(NamedTuple):
 
     values: Optional[Key]
     behind: int = 0
-
-    def key(self) -> Key:
-        if self.values is None:
-            return "", self.behind
-        return (*self.values, self.behind) if self.behind else self.values
 
 
 class Rows(NamedTuple):
@@ -92,7 +87,7 @@ class MBTiles(Store):
                 if isinstance(part, Rows):
                     yield from self._numbered(database, part)
                 else:
-                    for _, address, content in _told(database, _PLACE, *part):
+                    for *_, address, content in _told(database, _PLACE, *part):
                         yield address, content
         except sqlite3.Error as why:
             yield Address(None, None, None, "tiles"), why
@@ -109,8 +104,8 @@ class MBTiles(Store):
         try:
             with closing(Watched(self.path)) as database:
                 order = _order(database)
-                for spot, address, content in _told(database, order, Spot(None) if key is None else _spot(order, key)):
-                    yield spot.key(), address, content
+                for values, behind, address, content in _told(database, order, Spot(None) if key is None else _spot(order, key)):
+                    yield _key(values, behind), address, content
         except sqlite3.Error as why:
             yield key or ("", 0), Address(None, None, None, "tiles"), why
 
@@ -213,7 +208,7 @@ class MBTiles(Store):
         try:
             for row in database.rows(f"{query} order by {number}", part):
                 last = row[0]
-                yield _address(*row[1:4]), _content(database, row)
+                yield _address(row), _content(database, row)
             return
         except sqlite3.Error:
             pass
@@ -223,39 +218,45 @@ class MBTiles(Store):
             except sqlite3.Error as why:
                 yield Address(None, None, None, f"row {last}"), why
             else:
-                yield from ((_address(*row[1:4]), _content(database, row)) for row in found)
+                yield from ((_address(row), _content(database, row)) for row in found)
 
 
-def _told(
-    database: Watched, order: Tuple[str, ...], spot: Spot, count: int = -1
-) -> Iterator[Tuple[Spot, Address, Content]]:
+# A row that is told: its spot, where it stands for others, and its tile.
+_Told = Tuple[Optional[Key], int, Address, Content]
+
+
+def _told(database: Watched, order: Tuple[str, ...], spot: Spot, count: int = -1) -> Iterator[_Told]:
     """So many rows from one on, or all, in an order; and what can't be read, row by row."""
+    values, behind = spot
     while count:
+        found: Optional[_Told] = None
         try:
-            for spot, address, content in _rows(database, order, spot, count):
-                yield spot, address, content
-                spot, count = spot._replace(behind=spot.behind + 1), count - 1
+            for found in _rows(database, order, Spot(values, behind), count):
+                count -= 1
+                yield found
             return
         except sqlite3.Error as why:
-            places = _places(database, order, spot)
-            yield spot, places[0] if places else Address(None, None, None, "the tiles behind"), why
+            if found is not None:
+                values, behind = found[0], found[1] + 1
+            places = _places(database, order, Spot(values, behind))
+            yield values, behind, places[0] if places else Address(None, None, None, "the tiles behind"), why
             if len(places) < 2:
                 return
-            spot, count = spot._replace(behind=spot.behind + 1), count - 1
+            behind, count = behind + 1, count - 1
 
 
-def _rows(database: Watched, order: Tuple[str, ...], spot: Spot, count: int) -> Iterator[Tuple[Spot, Address, Content]]:
+def _rows(database: Watched, order: Tuple[str, ...], spot: Spot, count: int) -> Iterator[_Told]:
     """The rows from one on. A row's spot is its own where it has a place that no other one has, and else is counted from
     the one before it that has."""
     values, behind = spot
-    columns = slice(1, 4) if order == _PLACE else slice(0, 1)
-    numbers = (int,) * len(order)
+    is_numbered = order != _PLACE
+    columns = slice(0, 1) if is_numbered else slice(1, 4)
     where, bound = _from(order, spot)
     for row in database.rows(f"select {_selected(_numbers(database))} from tiles {where} limit {count} offset {behind}", bound):
-        found = row[columns]
-        if found != values and tuple(map(type, found)) == numbers:
+        address, found = _address(row), row[columns]
+        if found != values and (is_numbered or address.z is not None):
             values, behind = found, 0
-        yield Spot(values, behind), _address(*row[1:4]), _content(database, row)
+        yield values, behind, address, _content(database, row)
         behind += 1
 
 
@@ -267,7 +268,7 @@ def _places(database: Watched, order: Tuple[str, ...], spot: Spot) -> List[Addre
         rows = list(database.rows(f"select {columns} from tiles {where} limit 2 offset {spot.behind}", bound))
     except sqlite3.Error:
         return []
-    return [_address(*row) if order == _PLACE else Address(None, None, None, f"row {row[0]}") for row in rows]
+    return [_address((None, *row)) if order == _PLACE else Address(None, None, None, f"row {row[0]}") for row in rows]
 
 
 def _one(database: Watched, order: Tuple[str, ...], spot: Spot) -> Optional[Union[bytes, Exception]]:
@@ -342,6 +343,13 @@ def _from(order: Tuple[str, ...], spot: Spot) -> Tuple[str, Key]:
     return f"where ({names}) >= ({', '.join('?' * len(order))}) order by {names}", spot.values
 
 
+def _key(values: Optional[Key], behind: int) -> Key:
+    """The key of a spot."""
+    if values is None:
+        return "", behind
+    return (*values, behind) if behind else values
+
+
 def _spot(order: Tuple[str, ...], key: Key) -> Spot:
     """The spot of a key. Raises ValueError where it is none."""
     values, behind = key[: len(order)], (*key[len(order) :], 0)
@@ -359,8 +367,10 @@ def _spot(order: Tuple[str, ...], key: Key) -> Spot:
 def _content(database: Watched, row: Tuple[Any, ...]) -> Union[bytes, Exception]:
     """The tile of a row, as `_selected` has it."""
     data, size = row[4:]
+    if isinstance(data, bytes):
+        return data
     if data is not None:
-        return data if isinstance(data, bytes) else str(data).encode("utf-8", "surrogateescape")
+        return str(data).encode("utf-8", "surrogateescape")
     return b"" if size is None else _large(database, row[0], size)
 
 
@@ -381,15 +391,18 @@ def _turned(z: int, y: int) -> int:
     return (1 << z) - 1 - y
 
 
-def _address(z: Any, x: Any, row: Any) -> Address:
-    """Where a row stands: a place, with a name too where its zoom doesn't have it; a name where it is none."""
-    if type(z) is type(x) is type(row) is int and 0 <= z <= _DEEPEST:
-        y = _turned(z, row)
-        if 0 <= x < 1 << z and 0 <= y < 1 << z:
-            return Address(z, x, y)
-        if -_BITS <= y < _BITS:
-            return Address(z, x, y, f"{z}/{x}/{y}")
-    return Address(None, None, None, f"{_spelled(z)}/{_spelled(x)}/{_spelled(row)}")
+def _address(row: Tuple[Any, ...]) -> Address:
+    """Where a row stands, as `_selected` has it: a place, with a name too where its zoom doesn't have it; a name where it is
+    none."""
+    z, x, y = row[1:4]
+    side = _SIDES.get(z)
+    if side is not None and type(x) is int and type(y) is int:
+        north = side - 1 - y
+        if 0 <= x < side and 0 <= north < side:
+            return Address(z, x, north)
+        if -_BITS <= north < _BITS:
+            return Address(z, x, north, f"{z}/{x}/{north}")
+    return Address(None, None, None, f"{_spelled(z)}/{_spelled(x)}/{_spelled(y)}")
 
 
 def _spelled(value: Any) -> str:
