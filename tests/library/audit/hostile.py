@@ -58,6 +58,11 @@ def listed(path, most=1000, **options):
     return found
 
 
+def short(value):
+    """The name of a test's value."""
+    return ascii(value)[:40]
+
+
 def verdicts(rows):
     """The verdict of each row, by its name or place."""
     return {row.name or f"{row.z}/{row.x}/{row.y}": row.verdict for row in rows}

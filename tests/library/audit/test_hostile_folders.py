@@ -7,7 +7,7 @@ import stat
 import archives
 import pytest
 from common import at_places, make_mbtiles, make_tree
-from hostile import audited, in_time, listed, verdicts
+from hostile import audited, in_time, listed, short, verdicts
 from mvt.audit import files, stores
 from mvt.audit.stores import StoreError
 from mvt.page.given import Given, GivenError
@@ -193,7 +193,7 @@ def test_a_folder_that_may_not_be_listed_is_an_unread_row(tmp_path, monkeypatch)
         stores.opened(str(tree)).held(found[1][0])
 
 
-@pytest.mark.parametrize("key", [(), (1, 2, 3), (-1,), (1, -1), (1, 2, 3, 4), (1, 2, 3, -1), ("..",), ("5", 0, 0, 0), (1, 2, 3, 0, 0)])
+@pytest.mark.parametrize("key", [(), (1, 2, 3), (-1,), (1, -1), (1, 2, 3, 4), (1, 2, 3, -1), ("..",), ("5", 0, 0, 0), (1, 2, 3, 0, 0)], ids=short)
 def test_a_key_that_is_none_makes_no_path(key, tmp_path):
     tree = make_tree(tmp_path / "tree", {(4, 0, 0): TILE})
     for ask in (stores.opened(str(tree)).held, lambda key: list(stores.opened(str(tree)).since(key))):
@@ -256,7 +256,7 @@ def test_odd_names_in_a_list(tmp_path):
     assert len(listed(tmp_path / "list.txt")) == len(names)
 
 
-@pytest.mark.parametrize("key", [(-1,), ("0",), (1,), (1 << 70,), (), (0, 0), (None,)])
+@pytest.mark.parametrize("key", [(-1,), ("0",), (1,), (1 << 70,), (), (0, 0), (None,)], ids=short)
 def test_a_key_that_is_no_line(key, tmp_path):
     (tmp_path / "list.txt").write_text("one\ntwo\n")
     store = stores.opened(str(tmp_path / "list.txt"))

@@ -14,7 +14,7 @@ from pathlib import Path
 
 import pytest
 from common import at_places, make_mbtiles
-from hostile import audited, in_time, listed, verdicts
+from hostile import audited, in_time, listed, short, verdicts
 from hypothesis import given, settings
 from hypothesis import strategies as make
 from mvt.audit import sqlite, stores
@@ -44,7 +44,7 @@ GOOD = [(0, 0, 0), (1, 0, 0), (1, 1, 0), (1, 1, 1), (5, 17, 11), (30, 2**30 - 1,
 
 
 @pytest.fixture(autouse=True)
-def patience(monkeypatch):
+def patience():
     with in_time():
         yield
 
@@ -174,7 +174,7 @@ def test_a_text_that_is_no_utf8(tmp_path):
     assert found["\\xff/0/0"] == b"\x1a\x00\xff" and len(found) == len(GOOD) + 1
 
 
-@pytest.mark.parametrize("key", [(), (1,), (1, 2), (1, 2, 3, -1), (1, 2, 3, 4, 5), ("", -1), ("",), ("", "x"), ("x", 0, 0), (2**63, 0, 0), (0, 0, 2**70), (None, 0, 0)])
+@pytest.mark.parametrize("key", [(), (1,), (1, 2), (1, 2, 3, -1), (1, 2, 3, 4, 5), ("", -1), ("",), ("", "x"), ("x", 0, 0), (2**63, 0, 0), (0, 0, 2**70), (None, 0, 0)], ids=short)
 def test_a_key_that_is_none(key, tmp_path):
     store = stores.opened(str(made(tmp_path / "a.mbtiles", TABLES["indexed"], numbered(GOOD))))
     for ask in (store.held, lambda key: list(store.since(key))):
@@ -392,7 +392,7 @@ def test_words_of_a_schema_are_spelled(tmp_path):
     assert str(why.value).isprintable()
 
 
-@pytest.mark.parametrize("form", ["png", "\x1b[2J", "x" * 100_000, 5, None, b"\x00"])
+@pytest.mark.parametrize("form", ["png", "\x1b[2J", "x" * 100_000, 5, None, b"\x00"], ids=short)
 def test_another_format_is_refused_in_a_line(form, tmp_path):
     path = made(tmp_path / "a.mbtiles", [*TABLES["bare"], "create table metadata (name, value)"], numbered(GOOD))
     with closing(sqlite3.connect(path)) as database, database:

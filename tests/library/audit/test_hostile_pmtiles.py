@@ -9,7 +9,7 @@ from pathlib import Path
 
 import archives
 import pytest
-from hostile import audited, in_time, listed, verdicts
+from hostile import audited, in_time, listed, short, verdicts
 from hypothesis import given, settings
 from hypothesis import strategies as make
 from mvt.audit import stores
@@ -209,7 +209,7 @@ def test_ids_and_places_are_each_others(number):
     assert id_of(*place_of(number)) == number == archives.tile_id(*place_of(number))
 
 
-@pytest.mark.parametrize("key", [(), (1,), (-1, 0), (1, 2), (1, -1), (PLACES, 0), (2**70, 0), ("0", 0), (None, None), (0, 0, 0)])
+@pytest.mark.parametrize("key", [(), (1,), (-1, 0), (1, 2), (1, -1), (PLACES, 0), (2**70, 0), ("0", 0), (None, None), (0, 0, 0)], ids=short)
 def test_a_key_that_is_none(key, made):
     store = stores.opened(str(made(archive([(0, 1, 0, 4)]))))
     store.check()

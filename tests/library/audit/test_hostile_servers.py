@@ -8,7 +8,7 @@ import threading
 
 import pytest
 from common import at_places, make_tree
-from hostile import audited, in_time
+from hostile import audited, in_time, short
 from hypothesis import given, settings
 from hypothesis import strategies as make
 from mvt.audit import stores
@@ -134,7 +134,7 @@ def test_a_question_that_is_given_up_ends_its_connection(serving):
 # ---- what a head says
 
 
-@pytest.mark.parametrize("reason", ["\x1b]0;owned\x07\x1b[2J", "a\x00b", "x" * 50_000, "\x9b31m", ""])
+@pytest.mark.parametrize("reason", ["\x1b]0;owned\x07\x1b[2J", "a\x00b", "x" * 50_000, "\x9b31m", ""], ids=short)
 def test_a_reason_is_spelled_and_short(reason, serving):
     server = serving(lambda path: sent(b"HTTP/1.1 500 " + reason.encode("latin-1") + b"\r\nContent-Length: 0\r\n\r\n"))
     [row] = audited(server.address + "/{z}/{x}/{y}", zooms=(0, 0))
@@ -183,7 +183,7 @@ ADDRESSES = ["http://[/{z}/{x}/{y}", "http://[::1/{z}/{x}/{y}", "http://a:b/{z}/
              "http://a\u2100b/{z}/{x}/{y}", "ftp://a/{z}/{x}/{y}", "x" * 100_000, ""]  # fmt: skip
 
 
-@pytest.mark.parametrize("address", ADDRESSES)
+@pytest.mark.parametrize("address", ADDRESSES, ids=short)
 def test_an_odd_address_is_refused_in_a_line(address, serving):
     with pytest.raises(StoreError) as why:
         told(serving, {**GOOD, "tiles": [address]})
@@ -194,7 +194,7 @@ BOUNDS = ["[NaN, 0, 1, 1]", "[0, 0, Infinity, 1]", "[-Infinity, -Infinity, Infin
           f"[{'9' * 5000}, 0, 0, 0]", "[[0], 0, 0, 0]", "[0, 0, 0]", '"everywhere"', '["0", 0, 0, 0]', "{}", "[" * 500 + "]" * 500]  # fmt: skip
 
 
-@pytest.mark.parametrize("bounds", BOUNDS)
+@pytest.mark.parametrize("bounds", BOUNDS, ids=short)
 def test_odd_bounds_are_refused_in_a_line(bounds, serving):
     said = json.dumps(GOOD)[:-1] + f', "bounds": {bounds}}}'
     with pytest.raises(StoreError) as why:
@@ -202,7 +202,7 @@ def test_odd_bounds_are_refused_in_a_line(bounds, serving):
     assert str(why.value).isprintable() and len(str(why.value)) < 300
 
 
-@pytest.mark.parametrize("zooms", [(0, 31), (-1, 2), (3, 2), ("0", 1), (0, None), (0.5, 1), (0, 10**400), ([], {}), (float("nan"), 1)])
+@pytest.mark.parametrize("zooms", [(0, 31), (-1, 2), (3, 2), ("0", 1), (0, None), (0.5, 1), (0, 10**400), ([], {}), (float("nan"), 1)], ids=short)
 def test_odd_zooms_are_refused_in_a_line(zooms, serving):
     with pytest.raises(StoreError) as why:
         told(serving, {**GOOD, "minzoom": zooms[0], "maxzoom": zooms[1]})
@@ -210,7 +210,8 @@ def test_odd_zooms_are_refused_in_a_line(zooms, serving):
 
 
 @pytest.mark.parametrize("said", [b"[" * 100_000, b"[" * 100_000 + b"]" * 100_000, b'{"a":' * 100_000, b"\xff\xfe", b"", b"null", b"[]", b"1", b'"a"',
-                                  b'{"tiles": 1}', b'{"tiles": []}', b'{"tiles": [1]}', b"<html>", gzip.compress(b" " * 50_000_000), gzip.compress(b"{}")[:9]])  # fmt: skip
+                                  b'{"tiles": 1}', b'{"tiles": []}', b'{"tiles": [1]}', b"<html>", gzip.compress(b" " * 50_000_000, mtime=0),
+                                  gzip.compress(b"{}", mtime=0)[:9]], ids=short)  # fmt: skip
 def test_what_is_no_tilejson_is_refused_in_a_line(said, serving):
     with pytest.raises(StoreError) as why:
         told(serving, said)
