@@ -16,10 +16,19 @@ export function judged(codec, read, name) {
   return asked(() => codec.open(read.bytes).report(), (answer) => reported(answer, read, name));
 }
 
-/** Judges what was read of several files, `{read, name}`, at once. */
+/**
+ * Judges what was read of several files, `{read, name}`: by one question, but each by itself where there is no memory for all
+ * of them. What fails in one file is told of that one alone.
+ */
 export function allJudged(codec, files) {
-  const tell = (answers) => answers.map((answer, index) => reported(answer, files[index].read, files[index].name).verdict);
-  return asked(() => codec.reports(files.map(({ read }) => read.bytes)), tell, (failed) => files.map(() => failed.verdict));
+  const answers = codec.reports(files.map(({ read }) => read.bytes));
+  return Promise.all(files.map(async ({ read, name }, index) => {
+    const ask = async () => {
+      const answer = (await answers)[index];
+      return answer.status === NO_MEMORY ? codec.open(read.bytes).report() : answer;
+    };
+    return (await asked(ask, (answer) => reported(answer, read, name))).verdict;
+  }));
 }
 
 /** Reads the rows of what is to be shown, which judges it too: `{verdict, rows}`. The notes are left to the report. */
@@ -32,12 +41,12 @@ export function readRows(codec, read, name) {
 }
 
 /** What is made of an answer; of an error too, unless it is that nobody answers any more. */
-async function asked(ask, tell, fail = (failed) => failed) {
+async function asked(ask, tell) {
   try {
     return tell(await ask());
   } catch (error) {
     if (error instanceof Gone) throw error;
-    return fail({ verdict: unjudged(reasonOf(error)) });
+    return { verdict: unjudged(reasonOf(error)) };
   }
 }
 

@@ -17,8 +17,9 @@ const BEGINNINGS = [
   ['gzip', '\x1f\x8b', 'compressed twice (gzip): unpack it first'],
 ];
 
+/** The first bytes as letters of Latin 1, however many they are: a call takes so many arguments as its stack has room for. */
 function startOf(bytes, length) {
-  return String.fromCharCode(...bytes.subarray(0, length));
+  return Array.from(bytes.subarray(0, length), (byte) => String.fromCharCode(byte)).join('');
 }
 
 /** `{name, sentence}` of bytes that the library refused; null where they may be meant as a tile. */
@@ -37,7 +38,7 @@ function named(name, what, more = '') {
 }
 
 function databaseOf(bytes) {
-  const isStore = startOf(bytes.subarray(0, 65_536), 65_536).includes('tile_column');
+  const isStore = startOf(bytes, 65_536).includes('tile_column');
   return isStore ? named('MBTiles', 'an MBTiles store (an SQLite database)', OPENED)
     : named('SQLite', 'an SQLite database', 'If it is an MBTiles store, `mvt-page` with the file’s name opens it here, and `mvt-audit` judges each tile in it.');
 }

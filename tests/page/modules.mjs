@@ -9,6 +9,7 @@ import { floatText, shortFloat } from '../../page/src/floats.js';
 import { foreign, plain } from '../../page/src/foreign.js';
 import { JsonIndex } from '../../page/src/json-index.js';
 import { coloured, laidOut } from '../../page/src/json.js';
+import { allJudged } from '../../page/src/judging.js';
 import { kindOfFile } from '../../page/src/kinds.js';
 import { stemOf } from '../../page/src/names.js';
 import { Finder } from '../../page/src/near.js';
@@ -86,7 +87,24 @@ for (const file of ['gdal.mvt', 'gdal.json', 'town.geojson', 'postgis.mvt']) {
   await is(`brotli of ${file}`, kindOfFile(new Uint8Array(brotliCompressSync(readFileSync(`${tiles}/${file}`))), 'a.mvt')?.name, 'brotli');
 }
 await is('a broken tile is a tile', kindOfFile(Uint8Array.of(0x1a, 3, 0x0a, 9, 0x61, 0x78, 2), 'a.mvt'), null);
+await is('a large database', kindOfFile(latin(`SQLite format 3\0${' '.repeat(1 << 20)}`), 'a.gpkg')?.name, 'SQLite');
+await is('a large store', kindOfFile(latin(`SQLite format 3\0${' '.repeat(60_000)}tile_column${' '.repeat(1 << 20)}`), 'a.mbtiles')?.name, 'MBTiles');
 await counts.check('of a store it is said what to do', () => kindOfFile(latin('PMTiles\x03'), 'a').sentence.includes('`mvt-page` with the file’s name opens it'));
+
+// ---- several files, judged by one question
+
+const report = { status: 0, bytes: new TextEncoder().encode('ok layers 0 features 0 canonical yes\n') };
+const file = (...bytes) => ({ read: { bytes: Uint8Array.from(bytes), damaged: null }, name: 'a.mvt' });
+const files = [file(1), file(2), file(3)];
+const answering = (answers, alone = () => report) => ({
+  reports: async () => answers,
+  open: (bytes) => ({ report: async () => alone(bytes) }),
+});
+const kinds = async (codec) => (await allJudged(codec, files)).map(({ kind }) => kind);
+const failing = { get status() { throw new RangeError('Maximum call stack size exceeded'); } };
+await is('what fails in one file is told of that one', await kinds(answering([report, failing, report])), ['accepted', 'unjudged', 'accepted']);
+await is('where there is no memory for all, each is judged alone',
+  await kinds(answering(Array(3).fill({ status: 2 }), ([byte]) => (byte === 2 ? { status: 2 } : report))), ['accepted', 'unjudged', 'accepted']);
 
 // ---- texts
 
@@ -137,10 +155,10 @@ await is('no number', floatText('float', 0x7fc00000n).text, 'NaN');
 
 // ---- the report
 
-const report = new Report('ok layers 3 features 7 canonical no\nnote Foreign layer 0 version 1\nnote RepeatedId layer 1 feature 2 earlier 0\nnote Foreign layer 2 version 3\n');
-await is('notes by kind', report.kinds(), [{ kind: 'Foreign', count: 2 }, { kind: 'RepeatedId', count: 1 }]);
-await is('layers that were not looked into', report.foreign, 2);
-await is('a note leads to its feature', report.some('RepeatedId', 0, 9), [{ line: 'note RepeatedId layer 1 feature 2 earlier 0', layer: 1, feature: 2 }]);
+const noted = new Report('ok layers 3 features 7 canonical no\nnote Foreign layer 0 version 1\nnote RepeatedId layer 1 feature 2 earlier 0\nnote Foreign layer 2 version 3\n');
+await is('notes by kind', noted.kinds(), [{ kind: 'Foreign', count: 2 }, { kind: 'RepeatedId', count: 1 }]);
+await is('layers that were not looked into', noted.foreign, 2);
+await is('a note leads to its feature', noted.some('RepeatedId', 0, 9), [{ line: 'note RepeatedId layer 1 feature 2 earlier 0', layer: 1, feature: 2 }]);
 
 const findings = findingsOf('lint ZeroExtent layer 1\nlint FarPoint layer 2 feature 3 position 20000 -7\n');
 await is('findings by kind', findings.kinds(), [{ kind: 'ZeroExtent', count: 1 }, { kind: 'FarPoint', count: 1 }]);

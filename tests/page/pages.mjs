@@ -249,6 +249,17 @@ await onPage('fifty tiles at once', {}, async (page) => {
     ['51', '50 files: 45 accepted, 5 refused', 'layer 0 feature 0 at 8: 22 FirstRing']);
 });
 
+await onPage('a database among tiles says what it is, and the tiles are judged', {}, async (page) => {
+  const store = made('world.mbtiles', Buffer.concat([Buffer.from('SQLite format 3\0'), Buffer.alloc(900), Buffer.from('tile_column integer'), Buffer.alloc(1 << 20)]));
+  await page.drop([`${tiles}/gdal.mvt`, store, `${tiles}/broken/22-FirstRing.mvt`, made('map.gpkg', Buffer.concat([Buffer.from('SQLite format 3\0'), Buffer.alloc(1 << 20)]))]);
+  await page.until("document.querySelector('#list h2')?.textContent.startsWith('4 files:') && !document.body.classList.contains('busy')");
+  const heading = await page.value(textOf('#list h2'));
+  await page.value("document.querySelectorAll('#list tbody .link')[1].click()");
+  await page.until("document.querySelector('#tile .verdict.other')");
+  const told = await page.value(textOf('#tile .verdict.other'));
+  return same([heading, told.includes('`mvt-page` with the file’s name opens it here')], ['4 files: 1 accepted, 1 refused, 2 no tile', true]);
+});
+
 await onPage('a folder', {}, async (page) => {
   await page.choose([`${tiles}/broken`], '#folder');
   await page.until("document.querySelector('#list h2')?.textContent.includes(' files:') && !document.body.classList.contains('busy')");
