@@ -54,7 +54,7 @@ function integersDiffer(old, field, made, other, own, trail) {
 
 function nameOf(kind, number) {
   const name = NAMES[kind]?.[number];
-  return name ? `the field ${name} (${number})` : `field ${number}, which tiles don’t know,`;
+  return name ? `the field ${name} (${number})` : `the unknown field ${number}`;
 }
 
 function isSame(a, b) {

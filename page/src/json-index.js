@@ -51,10 +51,11 @@ export class JsonIndex {
     return this.#layers.length;
   }
 
-  /** Some layers without their features, `{json, features}`. */
+  /** Some layers, `{json, features}`, with dots in place of the features. */
   layers(from, end) {
     return this.#layers.slice(from, end).map(({ start, end: last, list, features }) => {
-      const json = list === null ? this.#text(start, last) : `${this.#text(start, list[0])}[]${this.#text(list[1], last)}`;
+      const dots = features.length === 0 ? '[]' : '[…]';
+      const json = list === null ? this.#text(start, last) : `${this.#text(start, list[0])}${dots}${this.#text(list[1], last)}`;
       return { json, features: features.length / 2 };
     });
   }

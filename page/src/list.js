@@ -5,7 +5,7 @@ import { foreignLine, plain } from './foreign.js';
 import { eachInSteps, sortedInSteps, withOthers } from './steps.js';
 import { counted, grouped, size } from './text.js';
 import { groupOf, lineOf, sayGroup } from './verdict.js';
-import { VirtualRows } from './virtual.js';
+import { SIZES, VirtualRows } from './virtual.js';
 
 const SAID_EVERY = 300;
 /** So many lines are saved as one piece. */
@@ -37,7 +37,7 @@ export class TileList {
     this.told = element('span', { class: 'quiet', role: 'status' });
     const saving = element('button', { type: 'button', onclick: () => this.#save() }, ['Save as CSV']);
     this.table = new VirtualRows({
-      label: 'Tiles', heads: this.#heads(), widths: ['38%', '6.5rem', null], classOf: (row) => `${row.verdict.kind}${row.index === this.#current ? ' current' : ''}`,
+      label: 'Tiles', heads: this.#heads(), widths: ['38%', SIZES, null], classOf: (row) => `${row.verdict.kind}${row.index === this.#current ? ' current' : ''}`,
       rowsOf: (from, end) => this.#shown.slice(from, end).map((index) => this.#rows[index]),
       cellsOf: (row) => this.#cells(row), height: 13,
     });

@@ -12,7 +12,8 @@ const ARROWS = 60;
 export function shapeOf(shape) {
   const { count, mark } = shape;
   const before = count === 0 ? 'It has no position before the fault.' : `The feature up to its fault: ${counted(count, 'position')}.`;
-  const told = mark === null ? `The feature, as far as it can be read: ${counted(count, 'position')}.` : `${before} The fault comes ${count === 0 ? 'at' : 'after'} (${mark.map(signed).join(', ')}), where the circle is.`;
+  const what = mark === null ? `The feature, as far as it can be read: ${counted(count, 'position')}.` : `${before} The fault comes ${count === 0 ? 'at' : 'after'} (${mark.map(signed).join(', ')}), where the circle is.`;
+  const told = isEdgeSeen(shape) ? `${what} The dashed line is the tile’s edge.` : what;
   const canvas = element('canvas', { role: 'img', 'aria-label': told, width: SIDE * 2, height: SIDE * 2 });
   const draw = () => drawShape(canvas.getContext('2d'), shape);
   draw();
@@ -20,12 +21,19 @@ export function shapeOf(shape) {
   return element('figure', { class: 'shape' }, [canvas, element('figcaption', { class: 'quiet' }, [told])]);
 }
 
-function boxOfShape({ parts, mark, extent }) {
+/** The square that shows all of a shape, and of one beyond the tile so much more that the tile’s edge is in it. */
+export function boxOfShape({ parts, mark, extent }) {
   const points = [...parts.flat(), ...(mark === null ? [] : [mark])];
-  const box = points.reduce(([left, top, right, bottom], [x, y]) => [Math.min(left, x), Math.min(top, y), Math.max(right, x), Math.max(bottom, y)],
-    [Infinity, Infinity, -Infinity, -Infinity]);
-  const size = Math.max(box[2] - box[0], box[3] - box[1], extent / 512, 4) * 1.3;
-  return { x: (box[0] + box[2] - size) / 2, y: (box[1] + box[3] - size) / 2, size };
+  const [left, top, right, bottom] = points.reduce(([l, t, r, b], [x, y]) => [Math.min(l, x), Math.min(t, y), Math.max(r, x), Math.max(b, y)],
+    [extent, extent, 0, 0]);
+  const size = Math.max(right - left, bottom - top, extent / 512, 4) * 1.3;
+  return { x: (left + right - size) / 2, y: (top + bottom - size) / 2, size };
+}
+
+/** Whether some of the tile’s edge lies in the square that is shown. */
+function isEdgeSeen(shape) {
+  const { x, y, size } = boxOfShape(shape);
+  return Math.min(x, y) <= 0 || Math.max(x, y) + size >= shape.extent;
 }
 
 function drawShape(context, shape) {

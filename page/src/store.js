@@ -4,7 +4,7 @@ import { foreign, foreignLine } from './foreign.js';
 import { placeOf, spelledPlace, verdictOfRow } from './stored.js';
 import { counted, grouped, size } from './text.js';
 import { lineOf } from './verdict.js';
-import { VirtualRows } from './virtual.js';
+import { SIZES, VirtualRows } from './virtual.js';
 import { BRIEF } from './words.js';
 
 /** So many tiles are asked for at a time. */
@@ -37,7 +37,7 @@ export class StoreList {
     this.problem = element('span', { class: 'problem', role: 'alert' });
     const heads = [['Tile'], ['Size', 'size'], ['Verdict']].map(([head, kindOf]) => element('th', { scope: 'col', class: kindOf ?? null }, [head]));
     this.table = new VirtualRows({
-      label: 'Tiles', heads, widths: ['9rem', '6.5rem', null], height: 13,
+      label: 'Tiles', heads, widths: ['9rem', SIZES, null], height: 13,
       classOf: (row) => `${row.told.kind}${row === this.#openRow ? ' current' : ''}`,
       rowsOf: (from, end) => this.#some(from, end),
       cellsOf: (row) => this.#cells(row),

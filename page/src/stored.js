@@ -20,10 +20,10 @@ function kindsOf(notes) {
   return [...counts].map(([kind, count]) => ({ kind, count }));
 }
 
-/** `{z, x, y}` of `5/17/11`; null where it is no place. */
+/** `{z, x, y}` of `5/17/11`, perhaps beyond the world, where some stores have tiles too; null where it is no place. */
 export function placeOf(told) {
   const [, z, x, y] = /^\s*(\d{1,2})\/(\d{1,10})\/(\d{1,10})\s*$/.exec(told)?.map(Number) ?? [];
-  return z <= 30 && x < 2 ** z && y < 2 ** z ? { z, x, y } : null;
+  return z <= 30 ? { z, x, y } : null;
 }
 
 export function spelledPlace({ z, x, y }) {

@@ -7,6 +7,8 @@ const ROW = 2.25;
 const BEYOND = 8;
 /** No browser lays out boxes that are much higher, in pixels. */
 const HIGHEST = 8_000_000;
+/** The width of a column of sizes (text.js), in wide letters too. */
+export const SIZES = '7.5rem';
 
 export class VirtualRows {
   #count = 0;

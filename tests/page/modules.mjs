@@ -134,7 +134,9 @@ await is('long JSON stays what it was', JSON.parse(laidOut(long)), JSON.parse(lo
 await counts.check('long JSON gets lines', () => laidOut(long).split('\n').length === 23);
 
 const json = new JsonIndex(new TextEncoder().encode('{"layers":[{"extent":4096,"features":[{"a":"{[\\"","g":{"points":[[1,2]]}},{"a":{}}],"name":"x"},{"foreign":{"length":4,"version":1}}]}'));
-await is('the layers of JSON', json.layers(0, 9), [{ json: '{"extent":4096,"features":[],"name":"x"}', features: 2 }, { json: '{"foreign":{"length":4,"version":1}}', features: 0 }]);
+await is('the layers of JSON', json.layers(0, 9), [{ json: '{"extent":4096,"features":[…],"name":"x"}', features: 2 }, { json: '{"foreign":{"length":4,"version":1}}', features: 0 }]);
+await is('a layer of JSON without features', new JsonIndex(new TextEncoder().encode('{"layers":[{"features":[],"name":"x"}]}')).layers(0, 1), [{ json: '{"features":[],"name":"x"}', features: 0 }]);
+await is('dots are laid out', coloured(laidOut('{"extent":4096,"features":[…]}')).join(''), '{"extent": 4096, "features": […]}');
 await is('the features of JSON', json.features(0, 0, 9).map((each) => each.json), ['{"a":"{[\\"","g":{"points":[[1,2]]}}', '{"a":{}}']);
 await is('coloured JSON is what it was', coloured(laidOut('{"a": ["b\\"", -1, true]}')).join(''), '{"a": ["b\\"", -1, true]}');
 
@@ -207,6 +209,8 @@ await is('nothing differs', differ(layer(version, name), layer(version, name)), 
 await is('another order', differ(layer(name, version), layer(version, name)), [2, 'layer/name', 'name']);
 await is('another value', differ(layer(version, name, feature(1)), layer(version, name, feature(2))), [9, 'layer/feature/type', 'type']);
 await is('a field too few', differ(layer(version), layer(version, name))?.slice(0, 2), [3, 'layer']);
+await is('an unknown field', [firstDifference(layer([0x30, 1], version), layer(version)), firstDifference(layer([0x30, 1]), layer())].map((found) => found.said),
+  ['Here stands the unknown field 6, and in the canonical form the field version (15).', 'Here stands the unknown field 6, and the canonical form has nothing more there.']);
 await is('a longer spelling', differ(Uint8Array.of(0x1a, 0x82, 0, 0x78, 2), layer(version)), [0, 'layer', 'bytes']);
 
 // ---- views
@@ -239,6 +243,20 @@ for (const [name, { paper, layers }] of Object.entries({ LIGHT, DARK })) {
   const pairs = labs.flatMap((a, index) => labs.slice(index + 1).map((b) => Math.hypot(...a.map((part, axis) => part - b[axis]))));
   await counts.check(`${name}: told apart`, () => Math.min(...pairs) > 0.15 || String(Math.min(...pairs)));
 }
+
+// ---- the shape of a faulty feature
+
+const { boxOfShape } = await import('../../page/src/shape.js');
+const isIn = (shape, [x, y]) => {
+  const box = boxOfShape({ mark: null, extent: 4096, ...shape });
+  return x >= box.x && y >= box.y && x <= box.x + box.size && y <= box.y + box.size;
+};
+const beyond = { parts: [[[4200, 500], [4300, 500], [4300, 600]]] };
+await is('a shape beyond the tile is seen whole, with the nearest edge', [[4200, 500], [4300, 600], [4096, 550], [0, 0]].map((point) => isIn(beyond, point)), [true, true, true, false]);
+await is('a shape beyond a corner is seen with the corner', isIn({ parts: [[[-300, -900], [-200, -800]]] }, [0, 0]), true);
+await is('a shape in the tile fills the square', boxOfShape({ parts: [[[100, 100], [300, 200]]], mark: null, extent: 4096 }), { x: 70, y: 20, size: 260 });
+await is('a mark beyond the tile is seen', isIn({ parts: [[[10, 10]]], mark: [9000, 10] }, [9000, 10]), true);
+
 // ---- questions and answers: bytes by hand, as library/python/mvt/page/calls.py says
 
 const FAULT = [1, 0, 0, 0, 0, 0, 0, 0, ...Array(8).fill(255), 2, 0, 0, 0, 0, 0, 0, 0, 8, 1, 0, 0, 0, 0, 0, 0, 22, 0, 0, 0, 2, 0, 0, 0, 0x61, 0x62];
@@ -262,10 +280,11 @@ await is('where rows lie', Object.entries(lists).slice(0, 9).map(([name, { at, c
 
 // ---- tiles of a store
 
-await is('places', ['5/17/11', ' 0/0/0 ', '1/2/0', '5/17', '31/0/0', '1/0/0.mvt', ''].map(placeOf), [{ z: 5, x: 17, y: 11 }, { z: 0, x: 0, y: 0 }, null, null, null, null, null]);
+await is('places', ['5/17/11', ' 0/0/0 ', '0/1/0', '5/17', '31/0/0', '1/0/0.mvt', ''].map(placeOf), [{ z: 5, x: 17, y: 11 }, { z: 0, x: 0, y: 0 }, { z: 0, x: 1, y: 0 }, null, null, null, null]);
 const ways = (place) => WAYS.map((way) => wayFrom(place, way)).map((to) => to && `${to.z}/${to.x}/${to.y}`);
 await is('ways from a tile', ways({ z: 2, x: 3, y: 1 }), ['2/2/1', '2/3/0', '2/3/2', '2/0/1', '1/1/0', '3/6/2', '3/7/2', '3/6/3', '3/7/3']);
 await is('ways from the whole world', ways({ z: 0, x: 0, y: 0 }), ['0/0/0', null, null, '0/0/0', null, '1/0/0', '1/1/0', '1/0/1', '1/1/1']);
+await is('ways from beyond the world', ways({ z: 0, x: 1, y: 0 }), ['0/0/0', null, null, '0/0/0', null, '1/2/0', '1/3/0', '1/2/1', '1/3/1']);
 await is('keys', [{ key: 'ArrowLeft', shiftKey: true }, { key: 'ArrowLeft' }, { key: '0' }, { key: '3', ctrlKey: true }, { key: 'x' }].map((event) => wayOfKey(event)?.name ?? null), ['West', null, 'Parent', null, null]);
 const row = { verdict: 'accepted', cause: null, cause_name: null, layer: null, feature: null, place: null, notes: '' };
 await is('verdicts of rows', [row, { ...row, notes: 'NoFeatures layer 0; FlatRing layer 0 feature 1; FlatRing layer 0 feature 2; and 7 more' }, { ...row, notes: 'Foreign layer 0 version 1' },

@@ -249,6 +249,14 @@ await onPage('fifty tiles at once', {}, async (page) => {
     ['51', '50 files: 45 accepted, 5 refused', 'layer 0 feature 0 at 8: 22 FirstRing']);
 });
 
+await onPage('a list has room for the sizes', {}, async (page) => {
+  const cell = "document.querySelectorAll('#list tbody td.size')";
+  await look(page, [made('wide.mvt', Buffer.alloc(8888)), made('wider.mvt', Buffer.alloc(9_888_888)), made('widest.mvt', Buffer.alloc(66_000_000))]);
+  await page.until(`${cell}.length === 3`);
+  const told = await page.value(`[...${cell}].map((each) => [each.textContent, each.scrollWidth <= each.clientWidth])`);
+  return same(told, [['8,888 bytes', true], ['9,889 kB', true], ['66 MB', true]]);
+});
+
 await onPage('a database among tiles says what it is, and the tiles are judged', {}, async (page) => {
   const store = made('world.mbtiles', Buffer.concat([Buffer.from('SQLite format 3\0'), Buffer.alloc(900), Buffer.from('tile_column integer'), Buffer.alloc(1 << 20)]));
   await page.drop([`${tiles}/gdal.mvt`, store, `${tiles}/broken/22-FirstRing.mvt`, made('map.gpkg', Buffer.concat([Buffer.from('SQLite format 3\0'), Buffer.alloc(1 << 20)]))]);
