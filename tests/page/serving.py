@@ -10,7 +10,6 @@ import subprocess
 import sys
 import tempfile
 import time
-import unittest
 from pathlib import Path
 
 TOP = Path(__file__).resolve().parents[2]
@@ -106,11 +105,3 @@ def parts_of(body):
         found.append(body[at : at + length])
         at += length
     return found
-
-
-def main():
-    """Runs the tests of a program. Its last line counts, for tests/page/run."""
-    result = unittest.main(exit=False).result
-    failed = len(result.failures) + len(result.errors) + len(result.unexpectedSuccesses)
-    print(f"counts {result.testsRun - failed} {failed}", flush=True)
-    sys.exit(failed != 0)

@@ -1,16 +1,13 @@
-"""Where faults stand, as the server answers `explain`, and as tests/examples/places.py finds by itself: test_places.py TILE.."""
+"""Where faults stand, as the server answers `explain`, and as tests/examples/places.py finds by itself."""
 
 import struct
 import sys
-import unittest
 from pathlib import Path
 
-from serving import Serving, main
+from serving import TILES
 
 sys.path.insert(0, str(Path(__file__).resolve().parents[1] / "examples"))
-import places
-
-TILES = []
+import places  # noqa: E402
 
 
 def read(told):
@@ -24,23 +21,17 @@ def read(told):
     return fault, place, words[name:].decode()
 
 
-class Places(unittest.TestCase):
-    def test_each_place(self):
-        sentences, refused = places.documented(), 0
-        with Serving() as serving:
-            for name, tile in places.tiles(TILES):
-                told = serving.call("explain", tile[: places.LIMIT + 1])
-                if told == struct.pack("<II", 0, 0):
-                    continue
-                refused += 1
-                fault, place, sentence = read(told)
-                self.assertEqual(place, places.find(tile[: places.LIMIT + 1], fault)[:4], name)
-                self.assertFalse(places.sentence_fails(tile, fault.cause, sentence, sentences), (name, sentence))
-        print(f"places: {refused} refused tiles")
-        self.assertGreater(refused, len(TILES) / 2)
-
-
-if __name__ == "__main__":
-    TILES = sys.argv[1:]
-    del sys.argv[1:]
-    main()
+def test_each_place(serving, pytestconfig):
+    """Of the broken tiles, and of the changed ones where there are some."""
+    changed = pytestconfig.getoption("changed")
+    given = sorted([*(TILES / "broken").glob("*.mvt*"), *(Path(changed).iterdir() if changed else [])])
+    sentences, refused = places.documented(), 0
+    for name, tile in places.tiles(map(str, given)):
+        told = serving.call("explain", tile[: places.LIMIT + 1])
+        if told == struct.pack("<II", 0, 0):
+            continue
+        refused += 1
+        fault, place, sentence = read(told)
+        assert place == places.find(tile[: places.LIMIT + 1], fault)[:4], name
+        assert not places.sentence_fails(tile, fault.cause, sentence, sentences), (name, sentence)
+    assert refused > len(given) / 2

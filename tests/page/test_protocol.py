@@ -17,7 +17,7 @@ import unittest
 from pathlib import Path
 
 import mvt
-from serving import COMMAND, TILES, Serving, frames, main, parts_of
+from serving import COMMAND, TILES, Serving, frames, parts_of
 
 GDAL = (TILES / "gdal.mvt").read_bytes()
 BROKEN = (TILES / "broken" / "22-FirstRing.mvt").read_bytes()
@@ -182,8 +182,8 @@ class Denied(Served):
 
     def test_lengths(self):
         path = self.serving.path + "judge"
-        for length, status in [(None, 411), ("x", 400), ("-1", 400), ("+1", 400), ("1_0", 400), ("0x1", 400), ("", 400), ("1 1", 400), ("١", 400), (["1", "1"], 411),
-                               (["1", "2"], 411), ("67108866", 413), ("9" * 30, 400), ("99999999999999999", 413)]:
+        for length, status in [(None, 411), ("x", 400), ("-1", 400), ("+1", 400), ("1_0", 400), ("0x1", 400), ("", 400), ("1 1", 400), ("١", 400), (["1", "1"], 400),
+                               (["1", "2"], 400), ("67108866", 413), ("9" * 30, 400), ("99999999999999999", 413)]:
             self.assertEqual(self.status(self.head("POST", path, Content_Length=length) + b"\0"), status, length)
         self.assertEqual(self.status(self.head("POST", path, Transfer_Encoding="chunked") + b"1\r\n\0\r\n0\r\n\r\n"), 411)
         self.assertEqual(self.status(self.head("POST", path, Transfer_Encoding="chunked", Content_Length="1") + b"\0"), 411)
@@ -411,7 +411,3 @@ class Command(unittest.TestCase):
         self.assertEqual((status, error), (0, ""))
         for word in ("--port", "--no-browser", "--zooms", "--bounds", "--requests", "--timeout", "WHAT", "Status"):
             self.assertIn(word, out)
-
-
-if __name__ == "__main__":
-    main()

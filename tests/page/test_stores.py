@@ -18,7 +18,7 @@ from common import at_places, example_tiles, make_mbtiles, make_tree, packings
 from mvt.audit import stores
 from mvt.audit.judging import judged
 from mvt.audit.stores import StoreError
-from serving import COMMAND, TILES, Serving, main
+from serving import COMMAND, TILES, Serving
 from test_server import Server, drip, sent
 
 
@@ -472,7 +472,3 @@ class Large(unittest.TestCase):
                 self.assertEqual((looked, page["tiles"][0]["z"], page["tiles"][0]["cause"]), (150_001, 12, 22))
                 self.assertLess(longest, 1 + 0.5 * slower)
                 self.assertLess(spent, 4 * slower)
-
-
-if __name__ == "__main__":
-    main()

@@ -14,6 +14,12 @@ def is_ours(host: str, port: int) -> bool:
     return host in names or (port == 80 and host in _NAMES)
 
 
+def are_headers(headers: Message) -> bool:
+    """Whether each line of a head is one header. What is none, and what stands behind it, Python takes for a body."""
+    is_whole = not headers.defects and not headers.get_payload() and headers.get_unixfrom() is None
+    return is_whole and not any(end in str(value) for value in headers.values() for end in "\r\n")
+
+
 def denial(headers: Message, port: int, is_page: bool) -> str:
     """Why a request is denied, in a sentence; nothing where it isn't. The page itself may be asked for by a link
     elsewhere, since whoever has the link has the token."""

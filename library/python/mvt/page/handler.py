@@ -17,7 +17,7 @@ from ..audit.unpacking import LIMIT
 from . import calls, frames, listing
 from .frames import Part
 from .given import place_of
-from .guard import denial
+from .guard import are_headers, denial
 
 if TYPE_CHECKING:
     from .server import Server
@@ -43,7 +43,6 @@ _ALWAYS = {
 # The page says its own policy; what isn't the page may do nothing at all.
 _OF_PAGE = "frame-ancestors 'none'"
 _OF_OTHERS = "default-src 'none'; frame-ancestors 'none'; sandbox"
-_NO_MEMORY = "There is no memory for it."
 
 
 class Fault(Exception):
@@ -77,7 +76,7 @@ class Handler(BaseHTTPRequestHandler):
         """Nothing is told of a request."""
 
     def handle_one_request(self) -> None:
-        self.server.waits_for(self.connection)
+        self.server.connections.waits(self.connection)
         super().handle_one_request()
 
     def do_GET(self) -> None:
@@ -89,28 +88,34 @@ class Handler(BaseHTTPRequestHandler):
         self._do(self._post)
 
     def _do(self, method: Any) -> None:
-        self.server.has_asked(self.connection)
         try:
-            method(self._asked())
+            asked = self._asked()
+            # Whoever has no token stays among those that wait, and goes before others.
+            self.server.connections.has_asked(self.connection)
+            method(asked)
         except Fault as why:
             self.send_error(why.status, why.told)
         except (ConnectionError, socket.timeout, TimeoutError):
             self.close_connection = True
+        except MemoryError:
+            self._fail(503, "There is no memory for it.")
         except Exception:
             traceback.print_exc()
-            self._fail()
+            self._fail(500, "The command mvt-page failed, which is a defect of it.")
 
-    def _fail(self) -> None:
-        """Tells of a defect, unless an answer is on its way already."""
+    def _fail(self, status: int, told: str) -> None:
+        """Tells what failed, unless an answer is on its way already."""
         if self._has_answered:
             self.close_connection = True
         else:
-            self.send_error(500, "The command mvt-page failed, which is a defect of it.")
+            self.send_error(status, told)
 
     # ---- what is asked, and by whom
 
     def _asked(self) -> Asked:
         """Raises Fault where it isn't this page that asks."""
+        if not are_headers(self.headers):
+            raise Fault(400, "A line of the head is no header.")
         path, _, query = self.path.partition("?")
         head, token, *words = path.split("/") if path.count("/") > 1 else ["", "", ""]
         is_page = self.command in ("GET", "HEAD") and words == [""]
@@ -124,7 +129,7 @@ class Handler(BaseHTTPRequestHandler):
     # ---- questions without a body
 
     def _get(self, asked: Asked) -> None:
-        if self.headers.get("Transfer-Encoding") or self.headers.get("Content-Length", "0") != "0":
+        if "Transfer-Encoding" in self.headers or self.headers.get_all("Content-Length", ["0"]) != ["0"]:
             raise Fault(400, "This question has no body.")
         if asked.path == [""]:
             self._answer(_PAGE, [self.server.page], _OF_PAGE)
@@ -154,7 +159,8 @@ class Handler(BaseHTTPRequestHandler):
         # Who only waits for another server keeps nobody from working.
         with nullcontext() if store.waits else self.server.turn(self.connection):
             self._leave_if_gone()
-            self._answer(_JSON if what == ["tiles"] else _BYTES, [self._told_of(store, what, asked.query)])
+            told = self._told_of(store, what, asked.query)
+        self._answer(_JSON if what == ["tiles"] else _BYTES, [told])
 
     def _told_of(self, store: Store, what: Sequence[str], query: Dict[str, str]) -> bytes:
         """Raises Fault, with the status 404 where there is no such tile and 502 where it can't be read."""
@@ -168,9 +174,6 @@ class Handler(BaseHTTPRequestHandler):
             raise Fault(400, "This is no key of a tile.") from why
         except (OSError, StoreError) as why:
             raise Fault(404 if isinstance(why, FileNotFoundError) else 502, _reason(why)) from why
-        except MemoryError as why:
-            self.close_connection = True
-            raise Fault(503, _NO_MEMORY) from why
 
     def _leave_if_gone(self) -> None:
         leave_if_gone(self.connection)
@@ -181,43 +184,39 @@ class Handler(BaseHTTPRequestHandler):
         name = asked.path[0]
         if len(asked.path) != 1 or name not in calls.CALLS:
             raise Fault(404, "There is no such call.")
-        length = self._length(MOST_FRAMED if name in calls.FRAMED else MOST)
+        self._answer(_BYTES, self._called(name, self._length(MOST_FRAMED if name in calls.FRAMED else MOST)))
+
+    def _called(self, name: str, length: int) -> calls.Answer:
+        """What a call answers to the body, which is there before the call takes its turn. Raises Fault."""
+        body = self._body(length)
         with self.server.turn(self.connection):
             try:
-                self._answer(_BYTES, calls.CALLS[name](self._body(length)))
+                return calls.CALLS[name](body)
             except frames.FrameError as why:
                 raise Fault(400, f"The body isn't framed: {why}.") from why
-            except MemoryError as why:
-                self._without_memory(why)
 
     def _length(self, most: int) -> int:
         lengths: List[str] = self.headers.get_all("Content-Length", [])
-        if self.headers.get("Transfer-Encoding") is not None or len(lengths) != 1:
-            raise Fault(411, "A body has one Content-Length, and comes in one piece.")
-        if re.fullmatch("[0-9]{1,18}", lengths[0]) is None:
+        if "Transfer-Encoding" in self.headers or not lengths:
+            raise Fault(411, "A body has a Content-Length, and comes in one piece.")
+        if len(lengths) > 1 or re.fullmatch("[0-9]{1,18}", lengths[0]) is None:
             raise Fault(400, "This Content-Length is no number.")
         if int(lengths[0]) > most:
             raise Fault(413, f"A body has at most {most} bytes.")
         return int(lengths[0])
 
     def _body(self, length: int) -> bytearray:
-        """The whole body. Raises ConnectionAbortedError where it ends early, or nobody waits for the answer."""
-        body, at = bytearray(length), 0
-        with memoryview(body) as view:
-            while at < length:
-                count = self.rfile.readinto(view[at : at + _PIECE])  # type: ignore[attr-defined]
-                if not count:
-                    raise ConnectionAbortedError("the body ended early")
-                at += count
+        """The whole body, for which memory is taken as it comes. Raises ConnectionAbortedError where it ends early, or
+        nobody waits for the answer."""
+        body = bytearray()
+        while len(body) < length:
+            piece = self.rfile.read1(min(_PIECE, length - len(body)))  # type: ignore[attr-defined]
+            if not piece:
+                raise ConnectionAbortedError("the body ended early")
+            body += piece
         self._is_read = True
         leave_if_gone(self.connection)
         return body
-
-    def _without_memory(self, why: MemoryError) -> None:
-        """Tells that this process has no memory, unless an answer is on its way already."""
-        self.close_connection = True
-        if not self._has_answered:
-            raise Fault(503, _NO_MEMORY) from why
 
     # ---- answers
 

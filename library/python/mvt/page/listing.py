@@ -31,7 +31,10 @@ class Wish(NamedTuple):
 
 def key_of(told: str) -> Key:
     """A key as `told` spells it. Raises ValueError."""
-    key = json.loads(told) if len(told) <= _LONGEST else None
+    try:
+        key = json.loads(told) if len(told) <= _LONGEST else None
+    except RecursionError as why:
+        raise ValueError("no key") from why
     if not isinstance(key, list) or not all(type(each) in (int, str) for each in key):
         raise ValueError("no key")
     return tuple(key)

@@ -6,13 +6,13 @@ import secrets
 import socket
 import sys
 import threading
-import time
 import traceback
 from contextlib import contextmanager
 from http.server import ThreadingHTTPServer
 from socketserver import TCPServer
-from typing import Any, Dict, Iterator
+from typing import Any, Iterator
 
+from .connections import Connections
 from .given import Given
 from .handler import PATIENCE, Handler, leave_if_gone
 
@@ -34,7 +34,7 @@ class Server(ThreadingHTTPServer):
         self.page, self.given = page, given
         self.token = secrets.token_urlsafe(24)
         self._turns = threading.BoundedSemaphore(os.cpu_count() or 1)
-        self._since: Dict[Any, float] = {}
+        self.connections = Connections(CONNECTIONS, PATIENCE)
         threading.stack_size(_STACK)
         super().__init__((HOST, port), Handler)
 
@@ -51,33 +51,17 @@ class Server(ThreadingHTTPServer):
     # ---- connections
 
     def process_request(self, request: Any, client_address: Any) -> None:
-        if len(self._since) >= CONNECTIONS:
+        if self.connections.take(request):
+            super().process_request(request, client_address)
+        else:
             self.shutdown_request(request)
-            return
-        self.waits_for(request)
-        super().process_request(request, client_address)
 
     def shutdown_request(self, request: Any) -> None:
-        self._since.pop(request, None)
+        self.connections.leave(request)
         super().shutdown_request(request)
 
-    def waits_for(self, request: Any) -> None:
-        """From now on the head of a request is due."""
-        self._since[request] = time.monotonic()
-
-    def has_asked(self, request: Any) -> None:
-        """The head of a request is there."""
-        self._since[request] = float("inf")
-
     def service_actions(self) -> None:
-        """Ends connections whose head is overdue, however slowly it still drips."""
-        now = time.monotonic()
-        for request, since in list(self._since.items()):
-            if now - since > PATIENCE:
-                try:
-                    request.shutdown(socket.SHUT_RDWR)
-                except OSError:
-                    pass  # it has ended by itself
+        self.connections.end_overdue()
 
     def handle_error(self, request: Any, client_address: Any) -> None:
         error = sys.exc_info()[1]
