@@ -7,6 +7,7 @@ import re
 import shlex
 import signal
 import socket
+import sqlite3
 import stat
 import struct
 import subprocess
@@ -14,6 +15,7 @@ import tempfile
 import threading
 import time
 import unittest
+from contextlib import closing
 from pathlib import Path
 
 import mvt
@@ -346,6 +348,22 @@ class Command(unittest.TestCase):
                 status, out, error = self.run_it("--no-browser", f"{folder}/{name}")
                 self.assertEqual((status, out), (3, ""))
                 self.assertRegex(error, rf"^mvt-page: {folder}/{name}: {why}.*\n$")
+
+    def test_names_do_not_command_the_terminal(self):
+        """Those of files, and those that a database has in its schema."""
+        with tempfile.TemporaryDirectory() as folder:
+            odd = Path(folder, "\x1b]0;owned\x07\nall is well.mvt")
+            schema = Path(folder, "a.mbtiles")
+            with closing(sqlite3.connect(schema)) as database, database:
+                database.execute("create table tiles (zoom_level, tile_column, tile_row, tile_data)")
+                database.execute("pragma writable_schema = on")
+                database.execute("update sqlite_master set sql = 'no table', name = ?", ("x\x1b[2J\n0 refused: all is well" + "y" * 1000,))
+            for name, words in [(odd, "\\x1b]0;owned\\x07\\x0aall is well.mvt: No such file"), (schema, "x\\x1b[2J\\x0a0 refused"), (Path(folder, "z" * 200), "z…: No such file")]:
+                status, out, error = self.run_it("--no-browser", name)
+                self.assertEqual((status, out), (3, ""))
+                self.assertIn(words, error)
+                self.assertNotRegex(error[:-1], "[\0-\x1f\x7f]")
+                self.assertLess(len(error), 500)
 
     def test_a_port_that_is_named(self):
         with socket.create_server(("127.0.0.1", 0)) as free:

@@ -183,6 +183,25 @@ class Stores(Case):
                 self.assertEqual(serving.ask("GET", f"stores/{number}/tiles?only=x")[0], 404)
             self.assertEqual(serving.ask("GET", f"stores/{len(kinds)}/tiles")[0], 404)
 
+    def test_a_tile_beyond_the_world_is_opened_by_its_place(self):
+        """As GDAL writes such: column 1 of zoom 0. A store that has none there says so, and opens no other tile."""
+        tiles = {(0, 0, 0): GDAL, (0, 1, 0): BROKEN, (1, 2, 0): GDAL}
+        for kind, path in self.kinds(tiles).items():
+            if kind == "archive":
+                continue  # there are no ids for them
+            with Serving(path, "0/1/0") as serving:
+                self.assertEqual(told(serving, "given")["first"], {"store": 0, "place": "0/1/0"}, kind)
+                self.assertEqual(serving.ask("GET", "stores/0/0/1/0")[::2], (200, BROKEN), kind)
+                [row, *_] = told(serving, "stores/0/tiles?at=0/1/0")["tiles"]
+                self.assertEqual((row["verdict"], row["cause"]), ("refused", 22), kind)
+                self.assertEqual(serving.ask("GET", "stores/0/0/0/1")[0], 404, kind)
+        server = self.answering(lambda *place: GDAL)
+        with Serving(self.made(archive({(0, 0, 0): GDAL}))) as archived, Serving(server.tiles, "--zooms", "0-1") as served:
+            for serving in (archived, served):
+                for path in ("0/1/0", "0/0/1", "1/2/0", "30/9999999999/0"):
+                    self.assertEqual(serving.ask("GET", f"stores/0/{path}")[0], 404, path)
+            self.assertEqual(server.asked, [])
+
     def test_a_part_of_a_name_in_a_list_is_no_name(self):
         (self.room / "list.txt").write_text(f"a{self.room}/secret.mvt\n")
         (self.room / "secret.mvt").write_bytes(GDAL)

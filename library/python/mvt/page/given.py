@@ -4,11 +4,14 @@ import os
 import re
 from typing import Any, Dict, List, NamedTuple, Optional, Sequence, Tuple
 
+from .._shown import shown
 from ..audit import files
 from ..audit.stores import Key, Options, Store, StoreError, found
 
 # A zoom beyond this is none.
 _MOST_ZOOM = 30
+# A reason has so many letters at most.
+_REASON = 300
 
 
 class GivenError(Exception):
@@ -51,7 +54,7 @@ class Given:
         try:
             key = store.find(*place[1:])
         except (OSError, StoreError) as why:
-            raise GivenError(str(why)) from why
+            raise GivenError(_line(why)) from why
         if key is None:
             raise GivenError(f"{shown(store.path)}: it has no tile {place.z}/{place.x}/{place.y}")
         return key
@@ -68,21 +71,23 @@ class Given:
 
 
 def place_of(words: Sequence[str]) -> Optional[Tuple[int, int, int]]:
-    """z, x and y of a tile; None where the words aren't those of one."""
+    """z, x and y of a tile, perhaps beyond the world, where some stores have tiles too; None where the words are no place."""
     if len(words) != 3 or not all(re.fullmatch("0|[1-9][0-9]{0,9}", word) for word in words):
         return None
     z, x, y = map(int, words)
-    return (z, x, y) if z <= _MOST_ZOOM and max(x, y) < 1 << z else None
+    return (z, x, y) if z <= _MOST_ZOOM else None
 
 
-def shown(name: str) -> str:
-    """A file's name as a text that any encoding takes."""
-    return name.encode("utf-8", "surrogateescape").decode("utf-8", "backslashreplace")
+def _line(why: Exception) -> str:
+    """Why a store can't be read, for a terminal: its path, and the reason, in which words of the store may stand."""
+    path, colon, reason = str(why).partition(": ")
+    return f"{shown(path)}{colon}{shown(reason, _REASON)}"
 
 
 def _base(path: str) -> str:
-    """The name of a file; the whole address of a server."""
-    return shown(path if "://" in path else os.path.basename(path) or path)
+    """The name of a file, or the whole address of a server, as a text that any encoding takes."""
+    name = path if "://" in path else os.path.basename(path) or path
+    return name.encode("utf-8", "surrogateescape").decode("utf-8", "backslashreplace")
 
 
 def _store(path: str, options: Options) -> Optional[Store]:
@@ -91,7 +96,7 @@ def _store(path: str, options: Options) -> Optional[Store]:
         if store is not None:
             store.check()
     except StoreError as why:
-        raise GivenError(shown(str(why))) from why
+        raise GivenError(_line(why)) from why
     return store
 
 

@@ -140,6 +140,8 @@ class PMTiles(Store):
                     yield (found.behind, 1), Address(None, None, None, found.name), StoreError(found.why)
 
     def find(self, z: int, x: int, y: int) -> Optional[Key]:
+        if max(x, y) >= 1 << z:
+            return None  # an archive has no ids beyond the world
         tile_id = id_of(z, x, y)
         with self._reading() as file:
             return None if self._found(file, tile_id) is None else (tile_id, 0)
