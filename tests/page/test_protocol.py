@@ -1,5 +1,6 @@
 """What the server answers to whom: its calls' spelling, requests that are no good, and how the command ends."""
 
+import fnmatch
 import http.client
 import os
 import random
@@ -17,6 +18,7 @@ import time
 import unittest
 from contextlib import closing
 from pathlib import Path
+from xml.etree import ElementTree
 
 import mvt
 from serving import COMMAND, TILES, Serving, frames, parts_of
@@ -423,6 +425,15 @@ class Command(unittest.TestCase):
                 command.chmod(0o755)
                 run = subprocess.run(words, input="\n", capture_output=True, text=True, timeout=30, env={"PATH": f"{folder}:/usr/bin:/bin"})
                 self.assertEqual((run.stdout, run.stderr), ("".join(f"{name}\n" for name in names) + told, ""))
+
+    def test_files_that_the_desktop_opens(self):
+        """Tiles by their ending, of .pbf files those that are named by a row, and stores."""
+        kinds = ElementTree.parse(TILES.parents[1] / "library" / "desktop" / "mvt.xml").getroot()
+        globs = [(glob.get("pattern"), kind.get("type")) for kind in kinds for glob in kind.findall("{*}glob")]
+        tile = "application/vnd.mapbox-vector-tile"
+        for name, wanted in [("town.mvt", tile), ("0.pbf", tile), ("1451.pbf", tile), ("268435455.pbf", tile), ("a.mbtiles", "application/x-mbtiles"), ("a.pmtiles", "application/vnd.pmtiles"),
+                             ("planet.osm.pbf", None), ("planet-220101.osm.pbf", None), ("0-255.pbf", None), ("roads.pbf", None)]:
+            self.assertEqual(next((kind for pattern, kind in globs if fnmatch.fnmatchcase(name, pattern)), None), wanted, name)
 
     def test_words_of_help(self):
         status, out, error = self.run_it("--help")
