@@ -17,6 +17,10 @@ from . import _command
 _command.begin()
 
 from typing import TYPE_CHECKING, Any, Union
+from importlib.util import find_spec as _find_spec
+
+if _find_spec("._mvt", __name__) is None:
+    raise ModuleNotFoundError(f"{__path__[0]} has no _mvt.abi3.so: `library/build` makes it", name="mvt._mvt")
 
 from ._errors import MvtError, NoLayer, NoTile, OutOfRange, Refused, TooLarge
 from ._lint import Finding, lint
