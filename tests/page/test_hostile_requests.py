@@ -15,7 +15,7 @@ from hypothesis import HealthCheck, given, settings
 from hypothesis import strategies as some
 
 from make_stores import make_mbtiles
-from mvt.page import guard
+from mvt.page import frames, guard, listing
 from serving import TILES, Serving
 
 GDAL = (TILES / "gdal.mvt").read_bytes()
@@ -143,6 +143,28 @@ def test_a_key_that_is_none(tmp_path, key):
         for path in (f"tile?key={key}", f"tiles?after={key}", f"tiles?from={key}"):
             assert status(serving, head(serving, "Connection: close", path=f"stores/0/{path}"), ends=False) in (400, 404)
         assert serving.end()[2] == ""
+
+
+@often
+@given(some.one_of(some.text(max_size=1200), some.text(alphabet='[]{}",:-0123456789eE.\\u truefalsn', max_size=1200)))
+def test_any_text_is_a_key_or_none(told):
+    try:
+        key = listing.key_of(told)
+    except ValueError:
+        return
+    assert isinstance(key, tuple) and all(type(each) in (int, str) for each in key)
+
+
+@often
+@given(some.binary(max_size=60), some.integers(0, 3))
+def test_any_body_is_framed_or_refused(body, least):
+    """The parts of one that is framed stand one behind the other, up to its end."""
+    try:
+        found = frames.places(body, least)
+    except frames.FrameError:
+        return
+    assert len(found) >= least
+    assert b"".join(body[each] for each in found) == body[4 + 4 * len(found) :]
 
 
 # ---- connections that are only held
