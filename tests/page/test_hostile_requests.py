@@ -21,7 +21,7 @@ from serving import TILES, Serving
 GDAL = (TILES / "gdal.mvt").read_bytes()
 PORT = 4711
 TURNS = os.cpu_count() or 1
-often = settings(max_examples=200, deadline=None, suppress_health_check=list(HealthCheck))
+often = settings(max_examples=200, deadline=None, database=None, suppress_health_check=list(HealthCheck))
 
 
 def head(serving, *lines, method="GET", path="given"):
