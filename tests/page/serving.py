@@ -42,7 +42,9 @@ class Serving:
                 self.address, self.port, self.path = f"http://127.0.0.1:{found[1]}{found[2]}", int(found[1]), found[2]
                 return self
             time.sleep(0.05)
-        raise AssertionError(f"it doesn't begin: {self.end()}")
+        said = self.end()
+        self.log.cleanup()
+        raise AssertionError(f"it doesn't begin: {said}")
 
     def __exit__(self, *_):
         self.end()

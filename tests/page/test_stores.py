@@ -15,7 +15,7 @@ from urllib.parse import quote
 import make_stores  # which finds what the tests of mvt-audit share
 from archives import archive, directory, entries_of, tile_id
 from common import at_places, example_tiles, make_mbtiles, make_tree, packings
-from mvt.audit import stores
+from mvt.audit import stores, tile_ids
 from mvt.audit.judging import judged
 from mvt.audit.stores import StoreError
 from serving import COMMAND, TILES, Serving
@@ -46,6 +46,14 @@ def listed(serving, number, count=7, only="", first=""):
 
 def place_of(row):
     return row["z"], row["x"], row["y"]
+
+
+def places_of(address):
+    """The places of a run of equal tiles, which is one row of an audit; or the name of what has no place."""
+    if address.z is None:
+        return [str(address)]
+    first = tile_id(*address[:3])
+    return ["%d/%d/%d" % tile_ids.place_of(first + number) for number in range(address.tiles)]
 
 
 def whole(zoom):
@@ -315,7 +323,7 @@ class Archives(Case):
             keys = [key for key, *_ in found]
             self.assertEqual(keys, sorted(set(keys)))
             self.assertEqual(sorted((str(address), str(content)) for _, address, content in found),
-                             sorted((str(address), str(content)) for address, content in audited))
+                             sorted((place, str(content)) for address, content in audited for place in places_of(address)))
             for number, (key, address, content) in enumerate(found):
                 self.assertEqual([each for each, *_ in store.since(key)], keys[number:])
                 self.assertEqual([each for each, *_ in store.after(key)], keys[number + 1 :])
@@ -440,10 +448,9 @@ class Servers(Case):
     def test_a_server_that_is_not_there(self):
         with socket.create_server(("127.0.0.1", 0)) as held:
             address = f"http://127.0.0.1:{held.getsockname()[1]}/{{z}}/{{x}}/{{y}}"
-        for address, why in [(address, "Connection refused"), ("http://127.0.0.1:port/{z}/{x}/{y}", "no HTTP: InvalidURL nonnumeric port: 'port'")]:
-            with Serving(address, "--zooms", "0-1") as serving:
-                self.assertEqual({(row["verdict"], row["notes"]) for row in listed(serving, 0)}, {("unread", why)})
-                self.assertEqual(serving.ask("GET", "stores/0/1/1/0")[::2], (502, f"{why}\n".encode()))
+        with Serving(address, "--zooms", "0-1") as serving:
+            self.assertEqual({(row["verdict"], row["notes"]) for row in listed(serving, 0)}, {("unread", "Connection refused")})
+            self.assertEqual(serving.ask("GET", "stores/0/1/1/0")[::2], (502, b"Connection refused\n"))
 
     def test_keys_that_are_none(self):
         server = self.answering(lambda *place: GDAL)
