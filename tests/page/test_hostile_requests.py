@@ -5,8 +5,9 @@ import io
 import os
 import re
 import socket
+import sqlite3
 import time
-from contextlib import ExitStack
+from contextlib import ExitStack, closing
 from email.message import Message
 from http.client import HTTPException, parse_headers
 
@@ -215,6 +216,20 @@ def test_tiles_of_a_store_that_nobody_reads_keep_nobody_from_working(tmp_path):
             connected(serving, held).sendall(head(serving, path="stores/0/1/0/0"))
         time.sleep(2)
         is_there(serving)
+
+
+def test_a_list_that_is_given_up_ends_what_the_store_does_for_it(tmp_path):
+    """Of a view that has one row, and looks for the next one for ever."""
+    with closing(sqlite3.connect(tmp_path / "a.mbtiles")) as database, database:
+        database.execute("""create view tiles as select 0 zoom_level, 0 tile_column, 0 tile_row, x'' tile_data union all
+            select * from (with recursive c(x) as (select 1 union all select x + 1 from c) select 1, 0, x, x'' from c where x < 0)""")
+    with Serving(tmp_path / "a.mbtiles") as serving:
+        with ExitStack() as held:
+            for _ in range(TURNS + 1):
+                connected(serving, held).sendall(head(serving, path="stores/0/tiles"))
+            time.sleep(1)
+        is_there(serving, seconds=8)
+        assert serving.end()[2] == ""
 
 
 def test_a_length_that_is_only_told_takes_no_memory(serving):

@@ -13,6 +13,7 @@ from typing import TYPE_CHECKING, Any, Dict, List, NamedTuple, Optional, Sequenc
 from urllib.parse import parse_qsl
 
 from ..audit.stores import Key, Store, StoreError
+from ..audit.stores.waiting import asked_while
 from ..audit.unpacking import LIMIT
 from . import calls, frames, listing
 from .frames import Part
@@ -159,14 +160,15 @@ class Handler(BaseHTTPRequestHandler):
         # Who only waits for another server keeps nobody from working.
         with nullcontext() if store.waits else self.server.turn(self.connection):
             self._leave_if_gone()
-            told = self._told_of(store, what, asked.query)
+            with asked_while(self._leave_if_gone):
+                told = self._told_of(store, what, asked.query)
         self._answer(_JSON if what == ["tiles"] else _BYTES, [told])
 
     def _told_of(self, store: Store, what: Sequence[str], query: Dict[str, str]) -> bytes:
         """Raises Fault, with the status 404 where there is no such tile and 502 where it can't be read."""
         try:
             if what == ["tiles"]:
-                return json.dumps(listing.some(store, _wish(store, query), self._leave_if_gone)).encode()
+                return json.dumps(listing.some(store, _wish(store, query))).encode()
             return store.held(_key(store, what, query))
         except ConnectionAbortedError:
             raise

@@ -3,12 +3,13 @@
 import json
 import time
 from contextlib import closing
-from typing import Any, Callable, Dict, List, NamedTuple, Optional
+from typing import Any, Dict, List, NamedTuple, Optional
 
 import mvt
 
 from ..audit.judging import ACCEPTED, EMPTY, Judge, Row
 from ..audit.stores import Address, Content, Key, NotYet, Store
+from ..audit.stores.waiting import alive
 from ..audit.unpacking import NotUnpacked, unpacked
 
 # So long, in seconds, tiles are looked through for one answer: who asks may go on, or not.
@@ -45,9 +46,8 @@ def spelled(key: Key) -> str:
     return json.dumps(key, default=str)
 
 
-def some(store: Store, wish: Wish, alive: Callable[[], None] = lambda: None) -> Dict[str, Any]:
-    """Some tiles, how many were looked at for them, and the key behind which to go on: None at the end. While a tile is
-    waited for, `alive` is asked, which may raise what ends the question."""
+def some(store: Store, wish: Wish) -> Dict[str, Any]:
+    """Some tiles, how many were looked at for them, and the key behind which to go on: None at the end."""
     tiles: List[Dict[str, Any]] = []
     last: Optional[Key] = None
     looked, looker, ends = 0, _Looker(wish), time.monotonic() + SLICE
