@@ -9,6 +9,7 @@ import subprocess
 import tempfile
 import time
 import unittest
+from contextlib import closing
 from pathlib import Path
 from urllib.parse import quote
 
@@ -229,6 +230,25 @@ class Stores(Case):
             self.assertEqual(serving.ask("GET", f"stores/0/tile?key={quote(rows['x/1/2']['key'])}")[::2], (200, b"\0"))
             [row] = listed(serving, 1)
             self.assertEqual((row["name"], row["verdict"], row["notes"]), ("gone.mvt", "unread", "No such file or directory"))
+
+    def test_odd_rows_are_listed_opened_and_hide_nothing(self):
+        """Whatever stands in their places, one tile to a page of the list; and a broken tile behind them is found."""
+        odd = [None, 1.5, float("inf"), b"\0\xff", "x" * 1500, "", "[", -1]
+        rows = [(zoom, 0, 0, GDAL + bytes([0x28, number])) for number, zoom in enumerate(odd)] + [(63, 0, -(2**63), GDAL), (1, None, "y", GDAL), (30, 0, 0, BROKEN), (30, 1, 0, GDAL)]
+        for kind, index in [("bare", ""), ("indexed", "create unique index places on tiles (zoom_level, tile_column, tile_row)"), ("view", "")]:
+            path = self.room / f"{kind}.mbtiles"
+            with closing(sqlite3.connect(path)) as database, database:
+                database.execute(f"create table {'held' if kind == 'view' else 'tiles'} (zoom_level, tile_column, tile_row, tile_data)")
+                database.executemany(f"insert into {'held' if kind == 'view' else 'tiles'} values (?, ?, ?, ?)", rows)
+                database.execute("create view tiles as select * from held" if kind == "view" else index or "select 1")
+            with Serving(path) as serving:
+                found = listed(serving, 0, 1)
+                self.assertEqual(len(found), len(rows), kind)
+                held = [serving.ask("GET", f"stores/0/tile?key={quote(row['key'])}")[::2] for row in found]
+                self.assertEqual(sorted(held), sorted((200, tile) for *_, tile in rows), kind)
+                [broken] = listed(serving, 0, 1, "broken")
+                self.assertEqual((broken["z"], broken["x"], broken["cause"]), (30, 0, 22), kind)
+                self.assertEqual(serving.end()[2], "", kind)
 
     def test_a_damaged_page_leaves_the_other_tiles(self):
         tiles = at_places([b"%04d" % number * 200 for number in range(500)])
