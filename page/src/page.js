@@ -5,7 +5,7 @@ import { element } from './dom.js';
 import { foreign, plain } from './foreign.js';
 import { TileList } from './list.js';
 import { StoreList } from './store.js';
-import { WAYS, placeOf, spelledPlace, wayFrom, wayOfKey } from './stored.js';
+import { WAYS, beyondOf, placeOf, spelledPlace, wayFrom, wayOfKey } from './stored.js';
 import { counted } from './text.js';
 import { TileView } from './tile.js';
 
@@ -229,7 +229,9 @@ export class Page {
       this.#coming = null;
       this.#done('coming');
       this.#problem(isThere ? '' : `The store has no tile ${plain(tile.name)}.`);
-      if (isThere) await this.#showInput({ name: tile.name, source: null }, () => this.#waysRound(tile.place), () => store.choose(tile), client);
+      const beyond = beyondOf(tile.place);
+      const note = beyond && `The store has it, but ${beyond}.`;
+      if (isThere) await this.#showInput({ name: tile.name, source: null, note }, () => this.#waysRound(tile.place), () => store.choose(tile), client);
       else client.stop();
     } catch (error) {
       this.#comes();

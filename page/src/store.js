@@ -1,7 +1,7 @@
 // A store of tiles: its list, which comes some at a time as it is looked at, and the search for broken ones.
 import { element } from './dom.js';
 import { foreign, foreignLine } from './foreign.js';
-import { placeOf, spelledPlace, verdictOfRow } from './stored.js';
+import { beyondOf, placeOf, spelledPlace, verdictOfRow } from './stored.js';
 import { counted, grouped, size } from './text.js';
 import { lineOf } from './verdict.js';
 import { SIZES, VirtualRows } from './virtual.js';
@@ -173,7 +173,7 @@ export class StoreList {
 
   #cells(row) {
     const tile = this.#tileOf(row);
-    const line = lineOf(row.told);
+    const line = [lineOf(row.told), beyondOf(tile.place)].filter(Boolean).join('; ');
     const open = element('button', { type: 'button', class: 'link', 'aria-current': row === this.#openRow && 'true', onclick: () => this.#hands.open(tile) }, [foreignLine(tile.name, 200)]);
     return [
       element('th', { scope: 'row' }, [open]),

@@ -30,6 +30,12 @@ export function spelledPlace({ z, x, y }) {
   return `${z}/${x}/${y}`;
 }
 
+/** What is told of a place that its zoom doesn't have; null of others, and of none. */
+export function beyondOf(place) {
+  const isIn = place === null || [place.x, place.y].every((each) => each >= 0 && each < 2 ** place.z);
+  return isIn ? null : `zoom ${place.z} has no such place`;
+}
+
 /** The ways from a tile to those beside, above and below it: their names, and the keys that go there. */
 export const WAYS = [
   { name: 'West', sign: '←', key: 'Shift+ArrowLeft', to: ({ z, x, y }) => ({ z, x: (x + 2 ** z - 1) % 2 ** z, y }) },

@@ -49,6 +49,7 @@ if __name__ == "__main__":
     folder = Path(sys.argv[1])
     make_mbtiles(folder / "town.mbtiles", town())
     make_mbtiles(folder / "many.mbtiles", many())
+    make_mbtiles(folder / "beyond.mbtiles", {(0, 0, 0): GDAL, (0, 1, 0): GDAL})
     (folder / "town.pmtiles").write_bytes(archive(town(), leaf=100, internal=2))
     make_tree(folder / "town", town())
     make_tree(folder / "tree", {place: tile for place, tile in town().items() if place[0] < 4})

@@ -19,7 +19,7 @@ import { spelledBytes, spelledOffset } from '../../page/src/spelled.js';
 import { answerOf, explainedOf, framesOf, partsOf, rowsOf } from '../../page/src/spelling.js';
 import { sortedInSteps, withOthers } from '../../page/src/steps.js';
 import { styled } from '../../page/src/styled.js';
-import { WAYS, placeOf, verdictOfRow, wayFrom, wayOfKey } from '../../page/src/stored.js';
+import { WAYS, beyondOf, placeOf, verdictOfRow, wayFrom, wayOfKey } from '../../page/src/stored.js';
 import { grouped } from '../../page/src/text.js';
 import { WHOLE, moved, transformOf, viewOf, zoomed } from '../../page/src/view.js';
 import { Counts } from './counts.mjs';
@@ -284,6 +284,8 @@ await is('places', ['5/17/11', ' 0/0/0 ', '0/1/0', '5/17', '31/0/0', '1/0/0.mvt'
 const ways = (place) => WAYS.map((way) => wayFrom(place, way)).map((to) => to && `${to.z}/${to.x}/${to.y}`);
 await is('ways from a tile', ways({ z: 2, x: 3, y: 1 }), ['2/2/1', '2/3/0', '2/3/2', '2/0/1', '1/1/0', '3/6/2', '3/7/2', '3/6/3', '3/7/3']);
 await is('ways from the whole world', ways({ z: 0, x: 0, y: 0 }), ['0/0/0', null, null, '0/0/0', null, '1/0/0', '1/1/0', '1/0/1', '1/1/1']);
+await is('places beyond the world', [null, { z: 0, x: 0, y: 0 }, { z: 1, x: 1, y: 1 }, { z: 0, x: 1, y: 0 }, { z: 2, x: 0, y: 4 }, { z: 2, x: 0, y: -1 }].map(beyondOf),
+  [null, null, null, 'zoom 0 has no such place', 'zoom 2 has no such place', 'zoom 2 has no such place']);
 await is('ways from beyond the world', ways({ z: 0, x: 1, y: 0 }), ['0/0/0', null, null, '0/0/0', null, '1/2/0', '1/3/0', '1/2/1', '1/3/1']);
 await is('keys', [{ key: 'ArrowLeft', shiftKey: true }, { key: 'ArrowLeft' }, { key: '0' }, { key: '3', ctrlKey: true }, { key: 'x' }].map((event) => wayOfKey(event)?.name ?? null), ['West', null, 'Parent', null, null]);
 const row = { verdict: 'accepted', cause: null, cause_name: null, layer: null, feature: null, place: null, notes: '' };

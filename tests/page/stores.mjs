@@ -66,6 +66,15 @@ await given([town], 'a store is listed by place, and more comes as it is scrolle
     ['town.mbtiles (MBTiles)', ['0/0/0', '1/0/1', '1/0/0', '1/1/1', '1/1/0'], '200 tiles so far; scroll on for more.', '1,364 tiles, which are all.']);
 });
 
+await given([`${folder}/beyond.mbtiles`], 'a tile beyond the world opens by its place, and is told to be there', async (page) => {
+  await listed(page);
+  await go(page, '0/1/0');
+  await shown(page, '0/1/0');
+  const lines = await page.value(texts('#list tbody td:last-child'));
+  return same([lines, await page.value(textOf('#tile .note'))],
+    [['accepted', 'accepted; zoom 0 has no such place'], 'The store has it, but zoom 0 has no such place.']);
+});
+
 const good = await tileServer();
 for (const [kind, words, five] of [
   ['an MBTiles file', [town], ['0/0/0', '1/0/1', '1/0/0', '1/1/1', '1/1/0']],
