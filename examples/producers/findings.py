@@ -12,7 +12,7 @@ import re
 import subprocess
 import tempfile
 
-from feature import Feature, features_of, ring_area
+from feature import features_of, ring_area
 from picture import picture
 from readers import gdal_says, protoc_says
 

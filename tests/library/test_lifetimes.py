@@ -1,12 +1,11 @@
 """What the module holds lasts as long as anything looks at it: at the end of the program, among threads, under Ctrl-C."""
 
-import os
 import signal
 import subprocess
 import sys
 import textwrap
-import threading
 import unittest
+from importlib.util import find_spec
 from pathlib import Path
 
 import mvt
@@ -40,9 +39,7 @@ class AtTheEnd(unittest.TestCase):
         self.assertEqual(told, (0, "True\n", ""))
 
     def test_arrays_in_a_function_of_atexit(self):
-        try:
-            import numpy  # noqa: F401
-        except ImportError:
+        if find_spec("numpy") is None:
             self.skipTest("numpy isn't there")
         told = run(
             """

@@ -47,7 +47,7 @@ def tile_with(**changed):
     return mvt.Tile([mvt.Layer("a", 4096, [mvt.Feature(**fields)])])
 
 
-def looked_at():
+def texts_of_rows():
     flat = mvt.rows(TILE)
     return [flat.text(layer.name) for layer in flat.layers], [flat.line(part) for part in flat.parts], repr(flat.points[0])
 
@@ -58,7 +58,7 @@ GOOD = (
     lambda: mvt.read_layer(TILE, "water"),
     lambda: mvt.rows(TILE).layers[0].name.start,
     lambda: memoryview(mvt.rows(TILE).points).nbytes,
-    looked_at,
+    texts_of_rows,
     lambda: mvt.write(WHOLE),
     lambda: mvt.write(ROWS),
     lambda: mvt.report(TILE),
