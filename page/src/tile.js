@@ -92,7 +92,8 @@ export class TileView {
     else {
       const where = trail.map(sayTrail).join(' › ');
       const first = said === null ? '' : ` First difference, at byte ${grouped(at)}${where === '' ? '' : ` (${where})`}: ${said}`;
-      box.textContent = `Not in canonical form, which has ${size(length)}.${first}`;
+      const long = length === this.#opened.length ? 'is as long' : `has ${size(length)}`;
+      box.textContent = `Not in canonical form, which ${long}.${first}`;
     }
   }
 

@@ -29,7 +29,7 @@ await onPage('canonical bytes are told as such', {}, async (page) => {
 await onPage('what differs from the canonical form is told', {}, async (page) => {
   await look(page, [made('order.mvt', Buffer.of(0x1a, 5, 0x0a, 1, 0x61, 0x78, 2))]);
   const told = await page.value(textOf('.canonical'));
-  return /byte 2 .*Here stands the field name \(1\), and in the canonical form the field version/.test(told) || told;
+  return /which is as long\. .*byte 2 .*Here stands the field name \(1\), and in the canonical form the field version/.test(told) || told;
 });
 
 await onPage('the picture shows areas, lines and points, and its layers can be switched off', {}, async (page) => {
