@@ -8,6 +8,9 @@ const MOST = LIMIT + 1;
 const LEAST_MEMBER = 18;
 const TRAILER = 8;
 
+/** So many members a tile may come in, as for mvt-audit. */
+const MEMBERS = 4096;
+
 /** So many wrong guesses of a member's end are made before the input counts as damaged. */
 const GUESSES = 100;
 
@@ -63,13 +66,13 @@ function* endsOf(bytes, from) {
   for (let end = bare; end <= Math.min(bare + TRAILER, bytes.length - 1); end += 1) yield end;
 }
 
-/** The members of gzip, one behind another, perhaps with zeros behind the last; null where one is damaged. */
+/** The members of gzip, one behind another, perhaps with zeros behind the last; null where one is damaged, or they are too many. */
 async function membersOf(bytes) {
   const parts = [];
   let at = 0;
   let length = 0;
   while (at < bytes.length && bytes[at] !== 0 && length < MOST) {
-    const member = await memberAt(bytes, at);
+    const member = parts.length === MEMBERS ? null : await memberAt(bytes, at);
     if (member === null) return null;
     parts.push(member.bytes);
     length += member.bytes.length;

@@ -221,6 +221,14 @@ for (const [name, pack] of [['gzip', gzipSync], ['zlib', deflateSync]]) {
   });
 }
 
+await onPage('gzip of too many members', {}, async (page) => {
+  const members = (count) => Buffer.concat(Array(count).fill(gzipSync(Buffer.alloc(0))));
+  await page.drop([made('many.mvt.gz', members(4096)), made('more.mvt.gz', members(4097))]);
+  await page.until("document.querySelector('#list h2')?.textContent.startsWith('2 files:') && !document.body.classList.contains('busy')", 120);
+  return same([await page.value(textOf('#list h2')), await page.value(texts('#list tbody td:last-child'))],
+    ['2 files: 1 accepted, 0 refused, 1 no tile', ['accepted, 1 note: NoLayers', 'no tile: damaged gzip']]);
+});
+
 for (const form of ['hex', 'base64']) {
   await onPage(`a tile pasted in ${form}`, {}, async (page) => {
     await page.value(`document.getElementById('pasted').value = '${readFileSync(`${tiles}/gdal.mvt`).toString(form)}'`);
