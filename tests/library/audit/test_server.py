@@ -10,7 +10,7 @@ import unittest
 
 from common import Case, at_places, audit, example_tiles, make_tree, rows
 from mvt.audit import judging, stores
-from mvt.audit.stores import Address, Options, StoreError
+from mvt.audit.stores import Address, Options
 from mvt.audit.stores.server import _blocks
 
 
