@@ -357,8 +357,10 @@ def test_a_log_that_stands_there_is_read_and_left(logged, tmp_path):
         copied.mkdir()
         for end in ("", "-wal"):
             (copied / f"a.mbtiles{end}").write_bytes(Path(f"{logged}{end}").read_bytes())
-        # With a writer there.
+        # With a writer there, also where its log is empty.
         assert len(audited(logged)) == 5
+        database.execute("pragma wal_checkpoint(truncate)")
+        assert len(audited(logged)) == len(listed(logged)) == 5
     before = beside(copied)
     assert len(audited(copied / "a.mbtiles")) == len(listed(copied / "a.mbtiles")) == 5
     assert beside(copied) == before and len(before) == 2
@@ -368,7 +370,7 @@ def test_a_log_that_stands_there_is_read_and_left(logged, tmp_path):
 def test_a_pipe_beside_the_file_is_not_waited_for(end, logged):
     os.mkfifo(f"{logged}{end}")
     for ask in (audited, listed):
-        with pytest.raises(StoreError, match="is no file"):
+        with pytest.raises(StoreError, match="it is a pipe, and no file"):
             ask(logged)
 
 

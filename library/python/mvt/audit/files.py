@@ -38,13 +38,24 @@ def opened(path: str) -> io.FileIO:
         raise OSError(errno.EINVAL, "a name with a NUL is no file's")
     file = os.open(path, os.O_RDONLY | os.O_NONBLOCK | os.O_NOCTTY | os.O_CLOEXEC)
     try:
-        kind = stat.S_IFMT(os.fstat(file).st_mode)
-        if kind != stat.S_IFREG:
-            raise OSError(errno.EINVAL, f"it is {_OTHERS.get(kind, 'something else')}, and no file", path)
+        _check_kind(os.fstat(file), path)
         return io.FileIO(file)
     except BaseException:
         os.close(file)
         raise
+
+
+def size_of(path: str) -> int:
+    """The size of a file, which isn't opened. Raises OSError where it is none."""
+    told = os.stat(path)
+    _check_kind(told, path)
+    return told.st_size
+
+
+def _check_kind(told: os.stat_result, path: str) -> None:
+    kind = stat.S_IFMT(told.st_mode)
+    if kind != stat.S_IFREG:
+        raise OSError(errno.EINVAL, f"it is {_OTHERS.get(kind, 'something else')}, and no file", path)
 
 
 def front(path: str, length: int) -> bytes:

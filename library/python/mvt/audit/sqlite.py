@@ -1,10 +1,8 @@
 """SQLite files that somebody else made, open for reading. A schema may have views that never end, values that a few bytes
 make a gigabyte of, and functions that take for ever: all of these end in an sqlite3.Error, and Ctrl-C comes through."""
 
-import errno
 import os
 import sqlite3
-import stat
 import time
 from contextlib import closing
 from pathlib import Path
@@ -22,16 +20,22 @@ _LONGEST = files.MOST + (1 << 20)
 # So much a question may name, views within views included: one of a few lines makes millions of them.
 _MOST_NAMED = 2000
 # What views of tiles call. Other functions may take for ever in one step.
-_FUNCTIONS = set("abs coalesce count ifnull iif length lower max min nullif substr substring sum total typeof upper zeroblob".split())
-_WAL = b"\2\2"
+_FUNCTIONS = {
+    *("coalesce", "ifnull", "iif", "nullif", "typeof", "abs", "length", "lower", "upper", "substr", "substring", "zeroblob"),
+    *("count", "max", "min", "sum", "total"),
+}
 
 
 class Watched(sqlite3.Connection):
     """A connection to a stranger's file."""
 
-    def __init__(self, path: str) -> None:
-        """Raises sqlite3.Error where there is no file that can be waited for."""
-        where, is_alone = _where(path)
+    def __init__(self, path: str, is_logged: bool = False) -> None:
+        """`is_logged` for a file that wants a log beside it. Raises sqlite3.Error where there is no file, or a pipe or the
+        like beside it. None of them is opened here, since closing one would give up the locks that this process has."""
+        try:
+            size, (where, is_alone) = files.size_of(path), _where(path, is_logged)
+        except OSError as why:
+            raise sqlite3.OperationalError(why.strerror) from why
         super().__init__(where, uri=True, isolation_level=None)
         self.execute("pragma trusted_schema = off")
         self.execute("pragma cell_size_check = on")
@@ -40,7 +44,7 @@ class Watched(sqlite3.Connection):
         if hasattr(self, "setlimit"):  # from Python 3.11 on
             self.setlimit(sqlite3.SQLITE_LIMIT_LENGTH, _LONGEST)
         self.text_factory = _text
-        self._seconds = PATIENCE + os.path.getsize(path) / BYTES_A_SECOND
+        self._seconds = PATIENCE + size / BYTES_A_SECOND
         self._ends, self._named = 0.0, 0
         self._why: Optional[BaseException] = None
         self.set_authorizer(self._allowed)
@@ -90,22 +94,17 @@ class Watched(sqlite3.Connection):
         return sqlite3.SQLITE_OK if is_known and self._named <= _MOST_NAMED else sqlite3.SQLITE_DENY
 
 
-def _where(path: str) -> Tuple[str, bool]:
+def _where(path: str, is_logged: bool) -> Tuple[str, bool]:
     """What SQLite opens, and whether this connection is alone with it. Nothing appears beside the file: where a log stands
     there and nobody has it open, SQLite reads it without the file that several would share; where none stands there, a file
     that wants one is read as it is."""
-    try:
-        files.opened(path).close()
-        for end in ("-journal", "-wal", "-shm"):
-            if os.path.lexists(path + end) and not stat.S_ISREG(os.stat(path + end).st_mode):
-                raise OSError(errno.EINVAL, f"the {end[1:]} beside it is no file")
-    except OSError as why:
-        raise sqlite3.OperationalError(why.strerror) from why
+    lengths = {end: files.size_of(path + end) for end in ("-journal", "-wal", "-shm") if os.path.lexists(path + end)}
     address = f"{Path(path).as_uri()}?mode=ro"
-    if os.path.exists(path + "-wal") and os.path.getsize(path + "-wal"):
-        is_alone = not os.path.exists(path + "-shm")
-        return (f"{address}&vfs=unix-none", True) if is_alone else (address, False)
-    return (f"{address}&immutable=1" if files.front(path, 20)[18:] == _WAL else address), False
+    if "-wal" in lengths and "-shm" in lengths:
+        return address, False  # what several share is there
+    if lengths.get("-wal"):
+        return f"{address}&vfs=unix-none", True
+    return (f"{address}&immutable=1" if is_logged else address), False
 
 
 def _text(content: bytes) -> str:

@@ -5,7 +5,7 @@ import hashlib
 import os
 import reprlib
 import sqlite3
-from contextlib import closing
+from contextlib import closing, contextmanager
 from typing import Any, Iterator, List, NamedTuple, Optional, Tuple, Union
 
 from ..._shown import shown
@@ -15,6 +15,8 @@ from ..sqlite import Watched
 from . import Address, Content, Key, Options, State, Store, StoreError
 
 _MAGIC = b"SQLite format 3\0"
+# The versions of a file that is written by a log, behind its page size.
+_LOGGED = b"\2\2"
 _PLACE = ("zoom_level", "tile_column", "tile_row")
 _BITS = 1 << 63
 # How many rows a zoom has, which a number of 64 bits has to tell.
@@ -40,7 +42,7 @@ class Some(NamedTuple):
     """A range of so many rows in the order of z, x and y."""
 
     spot: Spot
-    count: int
+    most: int
 
 
 def opened(path: str, options: Options = Options()) -> Optional["MBTiles"]:
@@ -56,11 +58,12 @@ class MBTiles(Store):
         self.path = os.path.abspath(path)
         # The name of the numbers of rows, where these part the tiles.
         self._numbers: Optional[str] = None
+        self._is_logged = False
 
     def check(self) -> None:
         self._check_file()
         try:
-            with closing(Watched(self.path)) as database:
+            with self._reading() as database:
                 self._check_tables(database)
         except sqlite3.Error as why:
             raise self._error(why) from why
@@ -68,7 +71,7 @@ class MBTiles(Store):
     def state(self) -> State:
         self.check()
         try:
-            with closing(Watched(self.path)) as database:
+            with self._reading() as database:
                 tiles = self._survey(database)
         except sqlite3.Error as why:
             raise self._error(why) from why
@@ -76,14 +79,17 @@ class MBTiles(Store):
 
     def ranges(self, size: int) -> Iterator[Union[Rows, Some]]:
         try:
-            with closing(Watched(self.path)) as database:
-                yield from self._spans(database, size) if self._numbers else _steps(database, size)
+            with self._reading() as database:
+                if self._numbers:
+                    yield from self._spans(database, size)
+                else:
+                    yield from _steps(database, size)
         except sqlite3.Error as why:
             raise self._error(why) from why
 
     def tiles(self, part: Union[Rows, Some]) -> Iterator[Tuple[Address, Content]]:
         try:
-            with closing(Watched(self.path)) as database:
+            with self._reading() as database:
                 if isinstance(part, Rows):
                     yield from self._numbered(database, part)
                 else:
@@ -102,16 +108,17 @@ class MBTiles(Store):
 
     def since(self, key: Optional[Key]) -> Iterator[Tuple[Key, Address, Content]]:
         try:
-            with closing(Watched(self.path)) as database:
+            with self._reading() as database:
                 order = _order(database)
-                for values, behind, address, content in _told(database, order, Spot(None) if key is None else _spot(order, key)):
+                first = Spot(None) if key is None else _spot(order, key)
+                for values, behind, address, content in _told(database, order, first):
                     yield _key(values, behind), address, content
         except sqlite3.Error as why:
             yield key or ("", 0), Address(None, None, None, "tiles"), why
 
     def find(self, z: int, x: int, y: int) -> Optional[Key]:
         try:
-            with closing(Watched(self.path)) as database:
+            with self._reading() as database:
                 query = f"select {', '.join(_order(database))} from tiles where {_equal(_PLACE)}"
                 return database.row(query, (z, x, _turned(z, y)))
         except sqlite3.Error as why:
@@ -122,7 +129,7 @@ class MBTiles(Store):
 
     def _held(self, key: Key, order: Optional[Tuple[str, ...]] = None) -> bytes:
         try:
-            with closing(Watched(self.path)) as database:
+            with self._reading() as database:
                 order = order or _order(database)
                 found = _one(database, order, _spot(order, key))
         except sqlite3.Error as why:
@@ -132,6 +139,11 @@ class MBTiles(Store):
         if isinstance(found, Exception):
             raise OSError(errno.EIO, str(found)) from found
         return found
+
+    @contextmanager
+    def _reading(self) -> Iterator[Watched]:
+        with closing(Watched(self.path, self._is_logged)) as database:
+            yield database
 
     def _error(self, why: Exception) -> StoreError:
         return StoreError(f"{self.path}: {shown(str(why))}")
@@ -145,6 +157,7 @@ class MBTiles(Store):
             raise StoreError(f"{self.path}: {why.strerror}") from why
         if not head.startswith(_MAGIC):
             raise StoreError(f"{self.path}: no SQLite file, so no MBTiles")
+        self._is_logged = head[18:20] == _LOGGED
         page = int.from_bytes(head[16:18], "big")
         wanted = int.from_bytes(head[28:32], "big") * (65536 if page == 1 else page)
         if size < wanted and head[24:28] == head[92:96]:
@@ -165,8 +178,8 @@ class MBTiles(Store):
             raise StoreError(f"{self.path}: no tiles in this MBTiles file")
 
     def _survey(self, database: Watched) -> int:
-        """Counts the tiles, and chooses how they are parted: by row numbers where these lie close together. (SQLite counts by
-        `count(*)` in one step, which can't be ended.)"""
+        """Counts the tiles, and chooses how they are parted: by row numbers where these lie close together."""
+        # SQLite does a `count(*)` in one step, which can't be ended.
         [tiles] = database.row("select count(1) from tiles") or (0,)
         self._numbers = _numbers(database)
         if self._numbers:
@@ -252,7 +265,8 @@ def _rows(database: Watched, order: Tuple[str, ...], spot: Spot, count: int) -> 
     is_numbered = order != _PLACE
     columns = slice(0, 1) if is_numbered else slice(1, 4)
     where, bound = _from(order, spot)
-    for row in database.rows(f"select {_selected(_numbers(database))} from tiles {where} limit {count} offset {behind}", bound):
+    query = f"select {_selected(_numbers(database))} from tiles {where} limit {count} offset {behind}"
+    for row in database.rows(query, bound):
         address, found = _address(row), row[columns]
         if found != values and (is_numbered or address.z is not None):
             values, behind = found, 0
@@ -352,16 +366,15 @@ def _key(values: Optional[Key], behind: int) -> Key:
 
 def _spot(order: Tuple[str, ...], key: Key) -> Spot:
     """The spot of a key. Raises ValueError where it is none."""
-    values, behind = key[: len(order)], (*key[len(order) :], 0)
-    if key[:1] == ("",):
-        values, behind = None, (*key[1:], 0)
-    if len(behind) > 2 or len(key) == 1 and values is None:
+    is_front = key[:1] == ("",)
+    width = 1 if is_front else len(order)
+    values, behind = key[:width], key[width:] or (0,)
+    numbers = behind if is_front else (*values, *behind)
+    if len(values) < width or len(behind) > 1 or (is_front and len(key) < 2):
         raise ValueError("no key of an MBTiles file")
-    if not all(isinstance(each, int) and -_BITS <= each < _BITS for each in (*(values or ()), *behind)) or behind[0] < 0:
+    if not all(isinstance(each, int) and -_BITS <= each < _BITS for each in numbers) or behind[0] < 0:
         raise ValueError("no key of an MBTiles file")
-    if values is not None and len(values) != len(order):
-        raise ValueError("no key of an MBTiles file")
-    return Spot(values, behind[0])
+    return Spot(None if is_front else values, behind[0])
 
 
 def _content(database: Watched, row: Tuple[Any, ...]) -> Union[bytes, Exception]:
@@ -392,8 +405,7 @@ def _turned(z: int, y: int) -> int:
 
 
 def _address(row: Tuple[Any, ...]) -> Address:
-    """Where a row stands, as `_selected` has it: a place, with a name too where its zoom doesn't have it; a name where it is
-    none."""
+    """Where a row stands, as `_selected` has it: a place, with a name too where its zoom doesn't have it, or a name."""
     z, x, y = row[1:4]
     side = _SIDES.get(z)
     if side is not None and type(x) is int and type(y) is int:
