@@ -228,7 +228,7 @@ def test_what_never_ends_is_told_within_its_time(kind, tmp_path, monkeypatch):
 
 @pytest.mark.parametrize("kind", NEVER)
 def test_a_signal_comes_through(kind, tmp_path):
-    class Ended(BaseException):
+    class Ended(KeyboardInterrupt):
         pass
 
     def end(*_):
@@ -239,7 +239,7 @@ def test_a_signal_comes_through(kind, tmp_path):
     begun = time.monotonic()
     signal.setitimer(signal.ITIMER_REAL, 1)
     try:
-        with pytest.raises(Ended):
+        with pytest.raises(KeyboardInterrupt):
             while True:
                 audited(path)
                 listed(path, most=5)
@@ -247,6 +247,18 @@ def test_a_signal_comes_through(kind, tmp_path):
         signal.setitimer(signal.ITIMER_REAL, 0)
         signal.signal(signal.SIGALRM, held)
     assert time.monotonic() - begun < 8
+
+
+def test_a_signal_while_a_question_is_prepared(tmp_path, monkeypatch):
+    """SQLite drops what is raised within what it asks whether a name is allowed."""
+    path = made(tmp_path / "a.mbtiles", TABLES["bare"], numbered(GOOD))
+
+    def end(*_):
+        raise KeyboardInterrupt
+
+    monkeypatch.setattr(sqlite.Watched, "_allowed", end)
+    with pytest.raises(KeyboardInterrupt):
+        audited(path)
 
 
 def test_a_question_that_is_given_up_ends(tmp_path):

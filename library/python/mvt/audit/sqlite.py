@@ -3,6 +3,7 @@ make a gigabyte of, and functions that take for ever: all of these end in an sql
 
 import os
 import sqlite3
+import threading
 import time
 from contextlib import closing
 from pathlib import Path
@@ -45,7 +46,7 @@ class Watched(sqlite3.Connection):
             self.setlimit(sqlite3.SQLITE_LIMIT_LENGTH, _LONGEST)
         self.text_factory = _text
         self._seconds = PATIENCE + size / BYTES_A_SECOND
-        self._ends, self._named = 0.0, 0
+        self._ends, self._named, self._is_denied = 0.0, 0, False
         self._why: Optional[BaseException] = None
         self.set_authorizer(self._allowed)
         self.set_progress_handler(self._looks().__next__, _STEPS)
@@ -53,7 +54,7 @@ class Watched(sqlite3.Connection):
     def rows(self, query: str, values: Tuple[Any, ...] = ()) -> Iterator[Tuple[Any, ...]]:
         """What is found, row by row. Raises sqlite3.Error, also where the next row doesn't come in its time, and what ends
         the command or the question."""
-        self._named = 0
+        self._named, self._is_denied = 0, False
         self._ends = time.monotonic() + self._seconds
         try:
             for row in self.execute(query, values):
@@ -65,6 +66,8 @@ class Watched(sqlite3.Connection):
             why, self._why = self._why, None
             if why is not None:
                 raise why from error
+            if "authorized" in str(error) or "prohibited" in str(error):
+                self._check_denied()
             if time.monotonic() > self._ends:
                 raise sqlite3.OperationalError(f"no answer within {self._seconds:.0f} seconds") from error
             raise
@@ -90,8 +93,16 @@ class Watched(sqlite3.Connection):
 
     def _allowed(self, action: int, _: Optional[str], function: Optional[str], *others: Optional[str]) -> int:
         self._named += 1
-        is_known = action != sqlite3.SQLITE_FUNCTION or str(function).lower() in _FUNCTIONS
-        return sqlite3.SQLITE_OK if is_known and self._named <= _MOST_NAMED else sqlite3.SQLITE_DENY
+        if self._named <= _MOST_NAMED and (action != sqlite3.SQLITE_FUNCTION or str(function).lower() in _FUNCTIONS):
+            return sqlite3.SQLITE_OK
+        self._is_denied = True
+        return sqlite3.SQLITE_DENY
+
+    def _check_denied(self) -> None:
+        """Raises KeyboardInterrupt where nothing was denied but by a signal that came within `_allowed`: what that raised
+        SQLite has dropped."""
+        if not self._is_denied and threading.current_thread() is threading.main_thread():
+            raise KeyboardInterrupt
 
 
 def _where(path: str, is_logged: bool) -> Tuple[str, bool]:
