@@ -8,11 +8,8 @@ from mvt import Refused, judge
 from mvt.audit.report import pictures
 
 SECRET = b"root:$6$secret:19000:0:99999:7:::\n" * 3
-
-
-def spelled(content):
-    """How the page shows bytes, in a row."""
-    return " ".join(f"{byte:02X}" for byte in content[:4])
+# Its first bytes as letters, in the row that the page shows of them.
+FIRST = "root:$6$"
 
 
 def test_no_bytes_of_a_file_that_a_link_leads_to(tmp_path):
@@ -27,7 +24,7 @@ def test_no_bytes_of_a_file_that_a_link_leads_to(tmp_path):
     assert (status, error) == (1, "")
     page = (tmp_path / "audit" / "report.html").read_text()
     assert "a link that leads out of the store; its bytes aren&#x27;t shown" in page
-    assert spelled(SECRET) not in page and "secret" not in page
+    assert FIRST not in page and "secret" not in page
 
 
 def test_bytes_of_links_within_the_store_and_of_named_files_are_shown(tmp_path):
@@ -40,10 +37,10 @@ def test_bytes_of_links_within_the_store_and_of_named_files_are_shown(tmp_path):
     (tmp_path / "lists" / "a.txt").write_text("../named\n../linked\n")
     (tmp_path / "linked").symlink_to(tmp_path / "named")
     audit(tmp_path / "store", "--into", tmp_path / "audit")
-    assert (tmp_path / "audit" / "report.html").read_text().count(spelled(SECRET)) >= 2
+    assert (tmp_path / "audit" / "report.html").read_text().count(FIRST) >= 2
     audit(tmp_path / "lists" / "a.txt", "--into", tmp_path / "another")
     page = (tmp_path / "another" / "report.html").read_text()
-    assert page.count(f"{spelled(SECRET)} ") >= 1 and page.count("leads out of the store") == 1
+    assert page.count(FIRST) >= 1 and page.count("leads out of the store") == 1
 
 
 def test_no_name_of_a_layer_that_a_link_leads_to(tmp_path):
