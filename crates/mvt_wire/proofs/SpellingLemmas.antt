@@ -9,7 +9,7 @@ use Rattle.mvt_wire.specs.Varint.{short}
 use Rattle.mvt_wire.specs.Field.{Content, varint, fixed64, bytes, fixed32, wire_type, IsPayload, IsField, Entry, body_size, IsFieldAt}
 use Rattle.mvt_wire.specs.Spelling.{short_payload, short_field, short_numbers, Plain, plain_of, spelled, IsWholeAs, FitsContent, IsFit}
 use Rattle.mvt_wire.specs.Split.{SplitFrom}
-use Rattle.mvt_wire.proofs.ShortLemmas.{short_spells, short_some}
+use Rattle.mvt_wire.proofs.ShortLemmas.{short_spells, short_some, short_most, short_length_one}
 use Rattle.mvt_wire.proofs.FieldLemmas.{wire_type_small}
 use Rattle.mvt_wire.proofs.StepLemmas.{nil_none}
 use Rattle.mvt_wire.proofs.SplitLemmas.{split_only}
@@ -112,6 +112,11 @@ bytes_longer number d =
       short_some (8 * number + 2),
       short_some (length d),
     )
+
+pub length-bytes : (number : ℕ) (d : List ℕ) → number < 16 → length (short_field number (bytes d)) ≤ 11 + length d
+length-bytes number d small =
+    let tag = short_length_one (8 * number + 2) (omega arith) in
+    omega (arith, length-short_field number (bytes d), length-append (short (length d)) d, tag, short_most (length d))
 
 pub numbers_longer : (ns : List ℕ) → length ns ≤ length (short_numbers ns)
 numbers_longer [] = omega arith

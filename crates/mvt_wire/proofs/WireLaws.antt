@@ -4,8 +4,8 @@ pub use Rattle.mvt_wire.proofs.ShortLemmas.{short_spells as short_varint_spells,
 pub use Rattle.mvt_wire.proofs.FieldLemmas.{entry_front as field_function_spelled, entry_none_from as field_function_none}
 pub use Rattle.mvt_wire.proofs.StepLemmas.{nil_none as field_function_end, nil_cause as one_cause_end}
 pub use Rattle.mvt_wire.proofs.SplitLemmas.{cause_stays as one_cause_stays, split_front as split_steps_field, split_none as split_steps_none, split_place as split_steps_place, split_rest as split_steps_rest, field_shifts as split_shifts_field, split_shifts as split_shifts_split, field_stays as front_stays_field, rest_stays as front_stays_rest}
-pub use Rattle.mvt_wire.proofs.PackedLemmas.{packed_is as packed_split_is, packed_clean as packed_function_clean, packed_are as packed_function_only, packed_ordered as packed_is_least_ordered, short_packed as short_packed_packed, short_most_small as short_lengths_five}
-pub use Rattle.mvt_wire.proofs.SpellingLemmas.{whole_once as spelled_whole_only, length-short_field as short_lengths_field, bytes_longer as short_lengths_bytes, numbers_longer as short_lengths_numbers, spelled-append as spelled_parts}
+pub use Rattle.mvt_wire.proofs.PackedLemmas.{packed_is as packed_split_is, packed_clean as packed_function_clean, packed_are as packed_function_only, packed_ordered as packed_is_least_ordered, short_packed as short_packed_packed, short_most_small as short_lengths_five, five_each as packed_lengths}
+pub use Rattle.mvt_wire.proofs.SpellingLemmas.{whole_once as spelled_whole_only, length-short_field as short_lengths_field, bytes_longer as short_lengths_bytes, numbers_longer as short_lengths_numbers, spelled-append as spelled_parts, length-bytes as bytes_lengths}
 pub use Rattle.mvt_wire.proofs.ZigzagLemmas.{unzig-zig as zigzag_function_number, zig-unzig as zigzag_function_code}
 use Rattle.std.proofs.Common.{ap, subst, sym, zero-add, ◌∙◌}
 use Rattle.std.specs.List.{AllByRecursion}

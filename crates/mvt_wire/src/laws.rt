@@ -165,9 +165,21 @@ pub fn short_lengths()
     ensures numbers { (ns : List ℕ) → length ns ≤ length (short_numbers ns) }
 {}
 
+/// Packed numbers of 32 bits take five bytes each at most.
+pub fn packed_lengths()
+    ensures { (ns : List ℕ) → AllByRecursion (λ n. n < 2 ^ 32) ns
+        → length (short_numbers ns) ≤ 5 * length ns }
+{}
+
 /// Fields after others are spelled after them.
 pub fn spelled_parts()
     ensures { (fs gs : List Plain) → spelled (fs ++ gs) ≡ spelled fs ++ spelled gs }
+{}
+
+/// A field of bytes whose tag takes one byte takes at most eleven bytes more than they are.
+pub fn bytes_lengths()
+    ensures { (number : ℕ) (d : List ℕ) → number < 16
+        → length (short_field number (bytes d)) ≤ 11 + length d }
 {}
 
 /// `unzig` gives the number of a zigzag code, and `zig` the code of a number.
