@@ -10,8 +10,8 @@ use Rattle.mvt_geometry.specs.declared.shape.Geometry.{Geometry}
 use Rattle.mvt_geometry.specs.declared.shape.Geometry.TheVariants.{Unknown, Points, Lines, Polygons}
 use Rattle.mvt_geometry.specs.declared.shape.Kind.{Kind}
 use Rattle.mvt_geometry.specs.Shape.{narrow, InRangeOf, InRange, IsPlaceOf, IsPlace, AreSteps, joined, origin, rings_of, kind_of, last_of}
-use Rattle.mvt_geometry.specs.Valid.{IsStrokeOf, IsStroke, IsValid, IsValidNarrow}
-use Rattle.mvt_geometry.specs.Drawing.{path_from, path, strokes, drawn, Draws, stroke}
+use Rattle.mvt_geometry.specs.Valid.{IsStrokeOf, IsStroke, IsValidOf, IsValid, IsValidNarrow}
+use Rattle.mvt_geometry.specs.Drawing.{path_from, path, strokes, drawn, DrawsOf, Draws, stroke}
 use Rattle.mvt_geometry.specs.Inner.Strokes.{AreSmall}
 use Rattle.mvt_geometry.specs.Inner.Grouping.{polygons_of}
 use Rattle.mvt_geometry.proofs.PathLemmas.{length-path}
@@ -163,3 +163,12 @@ old_geometries_stay (Points ps) v = (v.0, v.1, wide_places ps v.2, near_steps or
 old_geometries_stay (Lines ls) v = (v.0, wide_strokes 2 ls v.1, near_steps origin (joined ls) origin_narrow (joined_places 2 ls v.1))
 old_geometries_stay (Polygons ps) v =
     (v.0, wide_strokes 3 (rings_of ps) v.1, near_steps origin (joined (rings_of ps)) origin_narrow (joined_places 3 (rings_of ps) v.1))
+
+narrow_valid : (g : Geometry) → IsValidOf narrow g → IsValid g
+narrow_valid (Unknown u) v = v
+narrow_valid (Points ps) v = (v.0, v.1, wide_places ps v.2, v.3)
+narrow_valid (Lines ls) v = (v.0, wide_strokes 2 ls v.1, v.2)
+narrow_valid (Polygons ps) v = (v.0, wide_strokes 3 (rings_of ps) v.1, v.2)
+
+pub narrow_draws : (kind : Kind) (ints : List ℕ) (g : Geometry) → DrawsOf narrow kind ints g → Draws kind ints g
+narrow_draws kind ints g d = record { same_kind = d.same_kind; valid = narrow_valid g d.valid; spelled = d.spelled }

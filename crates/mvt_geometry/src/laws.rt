@@ -6,9 +6,9 @@ ghost use Rattle.mvt_geometry.specs.declared.shape.Kind.{Kind};
 ghost use Rattle.mvt_geometry.specs.declared.shape.Geometry.{Geometry};
 ghost use Rattle.mvt_geometry.specs.declared.shape.Point.{Point};
 ghost use Rattle.mvt_geometry.specs.Parts.{AreStrokes, IsStrokeFrom, end_of};
-ghost use Rattle.mvt_geometry.specs.Shape.{origin, last_of};
+ghost use Rattle.mvt_geometry.specs.Shape.{wide, narrow, origin, last_of};
 ghost use Rattle.mvt_geometry.specs.Valid.{IsValid, IsValidNarrow};
-ghost use Rattle.mvt_geometry.specs.Drawing.{drawn, Draws, stroke, strokes};
+ghost use Rattle.mvt_geometry.specs.Drawing.{drawn, Draws, DrawsOf, stroke, strokes};
 ghost use Rattle.mvt_geometry.specs.Table.{IndexedCause, geometry_rules, geometry_fault};
 
 /// Integers draw at most one geometry.
@@ -48,6 +48,12 @@ pub fn drawn_small()
 /// What is valid with positions in the narrow range, from -2^30 to 2^30 - 1, is valid.
 pub fn old_geometries_stay()
     ensures { (g : Geometry) → IsValidNarrow g → IsValid g }
+{}
+
+/// What integers draw with positions in the narrow range, they draw.
+pub fn narrow_is_wide()
+    ensures { (kind : Kind) (ints : List ℕ) (g : Geometry)
+        → DrawsOf narrow kind ints g → DrawsOf wide kind ints g }
 {}
 
 /// Lines or rings can be drawn one after another if each can be drawn from where the last one ends.
