@@ -13,4 +13,5 @@ mod TwoChoicesLemmas
 mod OrderedLemmas
 mod JudgingLemmas
 mod UsesLemmas
+mod AppendedLemmas
 mod IndicesLemmas

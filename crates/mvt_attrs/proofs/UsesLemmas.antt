@@ -1,5 +1,5 @@
 -- Entries that are known by their places, and those of them that are used.
-use Rattle.std.proofs.Common.{◌≡◌, ◌≢◌, ◌⊎◌, ℕ, zero, suc, ◌+◌, ◌-◌, ◌<◌, ◌≤◌, Bool, List, [], ◌∷◌, ◌++◌, length, map, set, get_or, take, drop, replicate, Some, Contains, Decides, bytes_eq, slice_get, slice_index, inl, inr, refl, sym, ap, ap₂, subst, ◌∙◌, ⊎_elim, arith, append_assoc, append-nil, Result, Ok, Err, OnOk}
+use Rattle.std.proofs.Common.{◌≡◌, ◌≢◌, ◌⊎◌, ℕ, zero, suc, ◌+◌, ◌-◌, ◌<◌, ◌≤◌, Bool, List, [], ◌∷◌, ◌++◌, length, map, set, get_or, take, drop, replicate, Some, Contains, Decides, bytes_eq, slice_get, slice_index, inl, inr, refl, sym, ap, ap₂, subst, ◌∙◌, ⊎_elim, arith, append_assoc, append-nil}
 use Rattle.std.specs.Option.{option_to_list}
 use Rattle.std.proofs.lemmas.Bool.{cases_eq, cases_lt}
 use Rattle.std.proofs.lemmas.List.{get_or_default, get_or_past, get_or-set_same, get_or-set_other, get_or_append_left, length_push, length-set, length-take, get_or-take, length-replicate, get_or-replicate, map-append, nil_from_length}
@@ -664,54 +664,6 @@ module _ (keys : List (List ℕ)) (values : List Value) (attributes : List Attri
 
     pub tags_end : after ≡ before ++ tags_in (used_of now.keys) (used_of now.values) attributes
     tags_end = so_far.out ∙ ap (λ ts. before ++ ts) places
-
--- ---- attributes whose entries are placed as they come
-
-pub on_ok_both : {T E P Q R : Type 0} → (r : Result T E) → (P → Q → R) → OnOk r P → OnOk r Q → OnOk r R
-on_ok_both (Ok x) both p q = both p q
-on_ok_both (Err e) both p q = tt
-
-pub on_ok_all : {T E P Q R S : Type 0} → (r : Result T E) → (P → Q → R → S) → OnOk r P → OnOk r Q → OnOk r R → OnOk r S
-on_ok_all (Ok x) all p q r = all p q r
-on_ok_all (Err e) all p q r = tt
-
-pub keys_apart : (keys : List (List ℕ)) (attributes : List Attribute) {pool : List (List ℕ)} → pool ≡ key_pool keys attributes
-    → AreDistinct pool
-keys_apart keys attributes is = subst AreDistinct (sym is) (first_use-distinct bytes_eq bytes_eq-Decides _)
-
-pub values_apart : (values : List Value) (attributes : List Attribute) {pool : List Value} → pool ≡ value_pool values attributes
-    → AreDistinct pool
-values_apart values attributes is = subst AreDistinct (sym is) (first_use-distinct equal_values equal_values-Decides _)
-
-module _ (attributes : List Attribute) (old new : LayerEntries) (uses : HasUses old [] []) (keys_stay : new.keys.places.items ≡ [])
-    (values_stay : new.values.places.items ≡ []) where
-  pub placed_by : new.keys.distinct ≡ key_pool old.keys.distinct attributes
-      → new.values.distinct ≡ value_pool old.values.distinct attributes
-      → Names new.keys.distinct new.values.distinct (tags_in new.keys.distinct new.values.distinct attributes) attributes
-      → IsUsedBy attributes old new
-  placed_by keys values names = record {
-    keys = all_used new.keys keys_stay ∙ keys ∙ ap (λ k. key_pool k attributes) (sym (all_used old.keys uses.0.no_places));
-    values = all_used new.values values_stay ∙ values ∙ ap (λ v. value_pool v attributes) (sym (all_used old.values uses.1.no_places));
-    names =
-        subst (λ ks. Names ks (used_of new.values) (tags_in ks (used_of new.values) attributes) attributes)
-        (sym (all_used new.keys keys_stay))
-        (subst (λ vs. Names new.keys.distinct vs (tags_in new.keys.distinct vs attributes) attributes)
-        (sym (all_used new.values values_stay)) names);
-  }
-
-  pub placed_tags : (before : List ℕ) {after : List ℕ} → after ≡ before ++ tags_in new.keys.distinct new.values.distinct attributes
-      → after ≡ before ++ tags_in (used_of new.keys) (used_of new.values) attributes
-  placed_tags before is =
-      is ∙ ap₂ (λ ks vs. before ++ tags_in ks vs attributes) (sym (all_used new.keys keys_stay)) (sym (all_used new.values values_stay))
-
-pub too_many_used : (attributes : List Attribute) (old : LayerEntries) (limit : ℕ) → HasUses old [] []
-    → (limit < length (key_pool old.keys.distinct attributes)) ⊎ (limit < length (value_pool old.values.distinct attributes))
-    → (limit < length (key_pool (used_of old.keys) attributes)) ⊎ (limit < length (value_pool (used_of old.values) attributes))
-too_many_used attributes old limit uses many =
-    subst (λ ks. (limit < length (key_pool ks attributes)) ⊎ (limit < length (value_pool (used_of old.values) attributes)))
-    (sym (all_used old.keys uses.0.no_places))
-    (subst (λ vs. (limit < length (key_pool old.keys.distinct attributes)) ⊎ (limit < length (value_pool vs attributes)))
-    (sym (all_used old.values uses.1.no_places)) many)
 
 -- the entries that were added
 

@@ -7,6 +7,7 @@ use Rattle.mvt_attrs.specs.declared.used_entries.LayerEntries.{LayerEntries}
 use Rattle.mvt_attrs.specs.declared.value.Attribute.{Attribute}
 use Rattle.mvt_attrs.specs.declared.value.Value.{Value}
 use Rattle.mvt_attrs.specs.FirstUse.{AreDistinct}
+use Rattle.mvt_attrs.specs.Placed.{ArePlaced, AreReported, IsFullAt}
 use Rattle.mvt_attrs.specs.Pools.{key_pool, value_pool}
 use Rattle.mvt_attrs.specs.Tags.{Names}
 use Rattle.mvt_attrs.specs.TagPlaces.{tags_in}
@@ -57,8 +58,26 @@ used_of uses = used_in uses.places.items uses.distinct uses.used.items
 abbrev pub HasUses : LayerEntries → List (List ℕ) → List Value → Type 0
 HasUses uses keys values = AreUsesOf uses.keys keys × AreUsesOf uses.values values
 
+-- no key and no value was added: attributes bring their own, and all that are there are used
+abbrev pub HasNoneAdded : LayerEntries → Type 0
+HasNoneAdded uses = HasUses uses [] []
+
 -- what attributes more do to the uses of a layer
 pub record IsUsedBy (attributes : List Attribute) (old new : LayerEntries) : Type 0 where
   pub keys : used_of new.keys ≡ key_pool (used_of old.keys) attributes
   pub values : used_of new.values ≡ value_pool (used_of old.values) attributes
   pub names : Names (used_of new.keys) (used_of new.values) (tags_in (used_of new.keys) (used_of new.values) attributes) attributes
+
+-- both entries of the first n attributes are used, and perhaps the key of the next
+abbrev pub AreUsedUpTo : ℕ → List Attribute → LayerEntries → LayerEntries → Type 0
+AreUsedUpTo n attributes old new =
+    ArePlaced n attributes (used_of old.keys) (used_of new.keys) (used_of old.values) (used_of new.values)
+
+-- the same where the tags of the first n attributes were told: the value of the next may be used too
+abbrev pub AreToldUpTo : ℕ → List Attribute → LayerEntries → LayerEntries → Type 0
+AreToldUpTo n attributes old new =
+    AreReported n attributes (used_of old.keys) (used_of new.keys) (used_of old.values) (used_of new.values)
+
+-- the entry of attribute n that is to be used next is new, and as many are used as may be
+abbrev pub IsUsedUpAt : ℕ → List Attribute → LayerEntries → Type 0
+IsUsedUpAt n attributes uses = IsFullAt n attributes (used_of uses.keys) (used_of uses.values)

@@ -9,7 +9,7 @@ ghost use Rattle.mvt_attrs.specs.Inner.Finding.{Knows};
 ghost use Rattle.mvt_attrs.specs.Inner.Places.{AreFirstMarks, AreIndices};
 ghost use Rattle.mvt_base.specs.Related.{Extends};
 ghost use Rattle.mvt_attrs.specs.Pools.{key_pool, value_pool};
-ghost use Rattle.mvt_attrs.specs.Using.{AreUsesOf, HasUses, IsUsedBy, used_of};
+ghost use Rattle.mvt_attrs.specs.Using.{AreUsesOf, AreToldUpTo, AreUsedUpTo, HasNoneAdded, HasUses, IsUsedBy, IsUsedUpAt, used_of};
 
 use crate::apart::index_apart;
 use crate::entry::Entry;
@@ -390,22 +390,35 @@ impl LayerEntries {
     ///
     /// # Errors
     ///
-    /// As [`tags_of`](crate::tags_of), and the list is then unchanged or longer.
+    /// As [`tags_of`](crate::tags_of): the entries of the attributes up to some place are then used,
+    /// and the list is unchanged or longer.
     pub fn append_attributes(
         &mut self,
         attributes: &[Attribute],
         last: &[u32],
         out: &mut Vec<u32>,
     ) -> Result<(), PoolError>
-        ensures uses { HasUses self.old [] [] → OnOk result (HasUses self.new [] []) }
-        ensures used { HasUses self.old [] []
+        ensures uses { HasNoneAdded self.old → HasNoneAdded self.new }
+        ensures used { HasNoneAdded self.old
             → OnOk result (IsUsedBy attributes.now self.old self.new) }
-        ensures tags { HasUses self.old [] [] → OnOk result (out.new.items ≡ out.old.items
+        ensures tags { HasNoneAdded self.old → OnOk result (out.new.items ≡ out.old.items
             ++ tags_in (used_of self.new.keys) (used_of self.new.values) attributes.now) }
+        ensures kept { HasNoneAdded self.old
+            → OnErr result ((n : ℕ) × AreUsedUpTo n attributes.now self.old self.new) }
         ensures left { OnErr result (Extends out.old.items out.new.items) }
-        ensures too_many { HasUses self.old [] [] → IsErrOf result PoolError.Full
+
+        // `Full` says that an entry was new where as many are used as may be, `Memory` that none was.
+        ensures full { HasNoneAdded self.old → IsErrOf result PoolError.Full
+            → (length (used_of self.new.keys) ≡ LIMIT)
+            ⊎ (length (used_of self.new.values) ≡ LIMIT) }
+        ensures too_many { HasNoneAdded self.old → IsErrOf result PoolError.Full
             → (LIMIT < length (key_pool (used_of self.old.keys) attributes.now))
             ⊎ (LIMIT < length (value_pool (used_of self.old.values) attributes.now)) }
+        ensures memory { HasNoneAdded self.old → IsErrOf result PoolError.Memory → (n : ℕ)
+            × AreToldUpTo n attributes.now self.old self.new
+            × (out.new.items ≡ out.old.items
+            ++ tags_in (used_of self.new.keys) (used_of self.new.values) (take n attributes.now))
+            × ¬ (IsUsedUpAt n attributes.now self.new) }
     {
         let LayerEntries { keys, values } = self;
         append_tags(

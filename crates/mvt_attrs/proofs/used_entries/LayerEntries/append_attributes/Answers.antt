@@ -1,40 +1,71 @@
-use Rattle.std.proofs.lemmas.Result.{on_ok_weaker}
+-- What `append_tags` says of the pools is said of what is used, since no key and no value was added.
+use Rattle.std.proofs.Common.{◌≡◌, ◌⊎◌, ◌<◌, ℕ, List, ◌++◌, length, take, OnErr, OnOk}
 use Rattle.mvt_base.specs.declared.TheConstants.{LIMIT}
-use Rattle.mvt_attrs.proofs.UsesLemmas.{on_ok_all, on_ok_both, keys_apart, values_apart, placed_by, placed_tags, too_many_used}
+use Rattle.mvt_attrs.specs.declared.value.Value.{Value}
+use Rattle.mvt_attrs.specs.declared.used_entries.LayerEntries.{LayerEntries}
+use Rattle.mvt_attrs.specs.Placed.{ArePlaced, AreReported, IsFullAt}
+use Rattle.mvt_attrs.specs.Pools.{key_pool, value_pool}
+use Rattle.mvt_attrs.specs.TagPlaces.{tags_in}
+use Rattle.mvt_attrs.specs.Tags.{Names}
+use Rattle.mvt_attrs.specs.Using.{HasNoneAdded, used_of}
+use Rattle.mvt_attrs.proofs.AppendedLemmas.{apart_after, of_used, used_by}
 use Rattle.mvt_attrs.proofs.used_entries.LayerEntries.append_attributes.Goals as goal
+
+abbrev after : goal.After-append_tags → LayerEntries
+after c = record {
+  keys = record c.args.self.now.keys { distinct = c.append_tags.new.keys };
+  values = record c.args.self.now.values { distinct = c.append_tags.new.values };
+}
+
+seen : (c : goal.After-append_tags) → HasNoneAdded c.args.self.now
+    → (P : List (List ℕ) → List (List ℕ) → List Value → List Value → Type 0)
+    → P c.args.self.now.keys.distinct c.append_tags.new.keys c.args.self.now.values.distinct c.append_tags.new.values
+    → P (used_of c.args.self.now.keys) (used_of (after c).keys) (used_of c.args.self.now.values) (used_of (after c).values)
+seen c uses = of_used c.args.self.now (after c) uses uses.0.no_places uses.1.no_places
 
 pub returns-clause-uses : goal.returns-clause-uses
 returns-clause-uses c = λ uses.
-    let attributes = c.args.attributes.now in
-    on_ok_both c.append_tags.result
-    (λ keys values. (
-      record {
-        apart = keys_apart c.args.self.now.keys.distinct attributes keys;
-        no_places = uses.0.no_places;
-        no_marks = uses.0.no_marks;
-        no_used = uses.0.no_used;
-      },
-      record {
-        apart = values_apart c.args.self.now.values.distinct attributes values;
-        no_places = uses.1.no_places;
-        no_marks = uses.1.no_marks;
-        no_used = uses.1.no_used;
-      },
-    ))
-    c.append_tags.ensures.keys c.append_tags.ensures.values
+    let e = c.append_tags.ensures in
+    let apart = apart_after c.append_tags.result c.args.attributes.now c.args.self.now.keys.distinct c.append_tags.new.keys
+    c.args.self.now.values.distinct c.append_tags.new.values e.keys e.values e.left in (
+      record { apart = apart.0; no_places = uses.0.no_places; no_marks = uses.0.no_marks; no_used = uses.0.no_used },
+      record { apart = apart.1; no_places = uses.1.no_places; no_marks = uses.1.no_marks; no_used = uses.1.no_used },
+    )
 
 pub returns-clause-used : goal.returns-clause-used
 returns-clause-used c = λ uses.
+    let attributes = c.args.attributes.now in
     let e = c.append_tags.ensures in
-    on_ok_all c.append_tags.result
-    (placed_by c.args.attributes.now c.args.self.now _ uses uses.0.no_places uses.1.no_places) e.keys e.values e.names
+    used_by c.append_tags.result attributes c.args.self.now (after c)
+    (seen c uses (λ ks k vs v. OnOk c.append_tags.result (k ≡ key_pool ks attributes)) e.keys)
+    (seen c uses (λ ks k vs v. OnOk c.append_tags.result (v ≡ value_pool vs attributes)) e.values)
+    (seen c uses (λ ks k vs v. OnOk c.append_tags.result (Names k v (tags_in k v attributes) attributes)) e.names)
 
 pub returns-clause-tags : goal.returns-clause-tags
 returns-clause-tags c = λ uses.
-    on_ok_weaker c.append_tags.result
-    (λ is. placed_tags c.args.attributes.now c.args.self.now _ uses uses.0.no_places uses.1.no_places c.args.out.now.items is)
+    seen c uses
+    (λ ks k vs v. OnOk c.append_tags.result (c.append_tags.new.tags.items ≡ c.args.out.now.items ++ tags_in k v c.args.attributes.now))
     c.append_tags.ensures.tags
+
+pub returns-clause-kept : goal.returns-clause-kept
+returns-clause-kept c = λ uses.
+    seen c uses (λ ks k vs v. OnErr c.append_tags.result ((n : ℕ) × ArePlaced n c.args.attributes.now ks k vs v))
+    c.append_tags.ensures.left
+
+pub returns-clause-full : goal.returns-clause-full
+returns-clause-full c = λ uses full.
+    seen c uses (λ ks k vs v. (length k ≡ LIMIT) ⊎ (length v ≡ LIMIT)) (c.append_tags.ensures.full full)
 
 pub returns-clause-too_many : goal.returns-clause-too_many
 returns-clause-too_many c = λ uses full.
-    too_many_used c.args.attributes.now c.args.self.now LIMIT uses (c.append_tags.ensures.too_many full)
+    let attributes = c.args.attributes.now in
+    seen c uses (λ ks k vs v. (LIMIT < length (key_pool ks attributes)) ⊎ (LIMIT < length (value_pool vs attributes)))
+    (c.append_tags.ensures.too_many full)
+
+pub returns-clause-memory : goal.returns-clause-memory
+returns-clause-memory c = λ uses memory.
+    let attributes = c.args.attributes.now in
+    seen c uses
+    (λ ks k vs v. (n : ℕ) × AreReported n attributes ks k vs v
+    × (c.append_tags.new.tags.items ≡ c.args.out.now.items ++ tags_in k v (take n attributes)) × ¬ (IsFullAt n attributes k v))
+    (c.append_tags.ensures.memory memory)
