@@ -1,5 +1,10 @@
 -- Lengths of what is written, and the lists that an error leaves.
-use Rattle.std.proofs.Common.{◌≡◌, ℕ, ◌+◌, ◌*◌, ◌<◌, [], ◌∷◌, length, sym, ap, ◌∙◌, append-nil, arith}
+use Rattle.std.proofs.Common.{◌≡◌, ℕ, ◌+◌, ◌*◌, ◌<◌, List, [], ◌∷◌, length, take, inl, sym, ap, subst, ◌∙◌, append-nil, arith}
+use Rattle.std.proofs.lemmas.List.{take_all}
+use Rattle.std.proofs.lemmas.Option.{slice_get_within}
+use Rattle.mvt_attrs.specs.declared.used_entries.LayerEntries.{LayerEntries}
+use Rattle.mvt_attrs.specs.declared.value.Attribute.{Attribute}
+use Rattle.mvt_attrs.specs.Using.{AreToldUpTo, AreUsedUpTo, IsUsedBy, IsUsedUpAt}
 use Rattle.mvt_wire.specs.Field.{Content, varint, fixed64, fixed32, wire_type}
 use Rattle.mvt_wire.specs.Varint.{short}
 use Rattle.mvt_wire.specs.Spelling.{short_payload, short_field, spelled}
@@ -24,3 +29,22 @@ fixed64_field_len number n small = sym (one_len number (fixed64 n) (omega arith)
 
 pub short_field_len : (number n : ℕ) → number < 8 → n < 128 → 2 ≡ length (spelled (plain number (varint n) ∷ []))
 short_field_len number n small low = varint_field_len number n 1 small (sym (short_lengths_one n low))
+
+-- attributes that were passed on are all used, and none is left that finds no place
+module _ (attributes passed : List Attribute) (is : passed ≡ attributes) (old new : LayerEntries) where
+  whole : attributes ≡ take (length attributes) attributes
+  whole = sym (take_all (length attributes) attributes (omega arith))
+
+  used_whole : IsUsedBy passed old new → IsUsedBy (take (length attributes) attributes) old new
+  used_whole used = subst (λ as'. IsUsedBy as' old new) (is ∙ whole) used
+
+  pub all_used : IsUsedBy passed old new → AreUsedUpTo (length attributes) attributes old new
+  all_used used =
+      let all = used_whole used in record { within = omega arith; keys_are = inl all.keys; values_are = all.values }
+
+  pub all_told : IsUsedBy passed old new → AreToldUpTo (length attributes) attributes old new
+  all_told used =
+      let all = used_whole used in record { within = omega arith; keys_are = inl all.keys; values_are = inl all.values }
+
+  pub none_left : IsUsedUpAt (length attributes) attributes new → ⊥
+  none_left full = omega (arith, slice_get_within attributes (length attributes) full.0 full.1)

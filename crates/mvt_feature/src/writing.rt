@@ -1,8 +1,8 @@
 //! Values and features in their canonical spelling.
-ghost use Rattle.std.specs.Prelude.{◌≡◌, ◌⊎◌, ◌<◌, [], ◌++◌, length, OnOk, OnErr, IsErrOf};
+ghost use Rattle.std.specs.Prelude.{◌≡◌, ◌⊎◌, ◌<◌, ◌++◌, ℕ, length, OnOk, OnErr, IsErrOf};
 ghost use Rattle.mvt_base.specs.Related.{Extends};
 ghost use Rattle.mvt_attrs.specs.Pools.{key_pool, value_pool};
-ghost use Rattle.mvt_attrs.specs.Using.{HasUses, used_of};
+ghost use Rattle.mvt_attrs.specs.Using.{AreToldUpTo, AreUsedUpTo, HasNoneAdded, IsUsedUpAt, used_of};
 ghost use Rattle.mvt_geometry.specs.Valid.{IsValid};
 ghost use Rattle.mvt_wire.specs.Spelling.{spelled};
 ghost use Rattle.mvt_feature.specs.Canonical.{value_fields, id_fields, tags_fields, type_fields, drawing_fields, type_number as the_type_number};
@@ -58,8 +58,8 @@ pub fn value_len(value: &Value) -> u64
 ///
 /// # Errors
 ///
-/// When memory runs out, or more keys or values are used than a pool may hold; the list is then
-/// unchanged or longer.
+/// When memory runs out, or more keys or values are used than a pool may hold. The keys and values
+/// of the attributes up to some place are then used, and the list is unchanged or longer.
 pub fn append_feature(
     feature: &Feature,
     uses: &mut LayerEntries,
@@ -67,13 +67,22 @@ pub fn append_feature(
     out: &mut Vec<u8>,
 ) -> Result<(), PoolError>
     requires { IsValid feature.now.geometry }
-    ensures feature { HasUses uses.old [] [] → OnOk result
+    ensures feature { HasNoneAdded uses.old → OnOk result
         (IsRewritten feature.now uses.old uses.new out.old.items out.new.items) }
-    ensures uses { HasUses uses.old [] [] → OnOk result (HasUses uses.new [] []) }
-    ensures too_many { HasUses uses.old [] [] → IsErrOf result PoolError.Full →
+    ensures uses { HasNoneAdded uses.old → HasNoneAdded uses.new }
+    ensures kept { HasNoneAdded uses.old
+        → OnErr result ((n : ℕ) × AreUsedUpTo n feature.now.attributes uses.old uses.new) }
+    ensures left { OnErr result (Extends out.old.items out.new.items) }
+
+    // `Full` says that an entry was new where as many are used as may be, `Memory` that none was.
+    ensures full { HasNoneAdded uses.old → IsErrOf result PoolError.Full
+        → (length (used_of uses.new.keys) ≡ LIMIT) ⊎ (length (used_of uses.new.values) ≡ LIMIT) }
+    ensures too_many { HasNoneAdded uses.old → IsErrOf result PoolError.Full →
         (LIMIT < length (key_pool (used_of uses.old.keys) feature.now.attributes))
         ⊎ (LIMIT < length (value_pool (used_of uses.old.values) feature.now.attributes)) }
-    ensures left { OnErr result (Extends out.old.items out.new.items) }
+    ensures memory { HasNoneAdded uses.old → IsErrOf result PoolError.Memory → (n : ℕ)
+        × AreToldUpTo n feature.now.attributes uses.old uses.new
+        × ¬ (IsUsedUpAt n feature.now.attributes uses.new) }
 {
     swap(&mut scratch.tags, &mut scratch.written_tags);
     scratch.tags.clear();
