@@ -187,12 +187,36 @@ pub still_uses : {A : Type 0} → (distinct : List A) (places marks new_marks : 
 still_uses distinct places marks new_marks used longer [] i within uses more = absurd (let none = ap length uses.no_places in omega arith)
 still_uses distinct places marks new_marks used longer (x ∷ entries) i within uses more = more uses
 
+-- no entry was added: what attributes brought is used by its marks
+pub brought : {A : Type 0} → (u : UsedEntries A) (entries : List A) (marks : List ℕ) (used : List A) → AreUsesOf u entries
+    → u.places.items ≡ [] → AreFirstMarks marks (length u.distinct) (length u.distinct) → used ≡ u.distinct
+    → AreUses u.distinct u.places.items marks used entries
+brought u [] marks used uses none are_marks is =
+    subst (λ us. AreUses u.distinct u.places.items marks us []) (sym is) (record {
+      apart = uses.apart;
+      count = ap length none;
+      placed = λ i x at. cc;
+      room = are_marks.count;
+      marked = λ p i within at.
+          let same : i ≡ p = omega (arith, are_marks.front p within within, at) in ap (slice_get u.distinct) same;
+      once = uses.apart;
+      recorded = λ i x at.
+          let inside = slice_get_within u.distinct i x at in (i, at, λ zero_there. omega (arith, are_marks.front i inside inside, zero_there));
+    })
+brought u (x ∷ entries) marks used uses none are_marks is =
+    let count = uses.count in let size = ap length none in absurd (omega arith)
+
+-- entries were added
+pub added_before : {A : Type 0} → (u : UsedEntries A) (entries : List A) → AreUsesOf u entries → 0 < length u.places.items
+    → AreUses u.distinct u.places.items u.marks.items u.used.items entries
+added_before u [] uses some = let size = ap length uses.no_places in absurd (omega arith)
+added_before u (x ∷ entries) uses some = uses
+
 -- an entry can be added where entries were added, and where nothing is used
 pub to_add : {A : Type 0} → (distinct : List A) (places marks : List ℕ) (used entries : List A) → UsesAre distinct places marks used entries
-    → (places ≡ [] → distinct ≡ []) → AreUses distinct places marks used entries
-to_add distinct places marks used [] uses empty =
-    uses_none distinct places marks used (empty uses.no_places) uses.no_places uses.no_marks uses.no_used
-to_add distinct places marks used (x ∷ entries) uses empty = uses
+    → distinct ≡ [] → AreUses distinct places marks used entries
+to_add distinct places marks used [] uses none = uses_none distinct places marks used none uses.no_places uses.no_marks uses.no_used
+to_add distinct places marks used (x ∷ entries) uses none = uses
 
 pub is_added : {A : Type 0} → (distinct : List A) (places marks : List ℕ) (used entries : List A) (x : A)
     → AreUses distinct places marks used (entries ++ x ∷ []) → UsesAre distinct places marks used (entries ++ x ∷ [])
@@ -231,21 +255,16 @@ pub none_used : {A : Type 0} → (u : UsedEntries A) → length u.distinct ≡ l
 unfolding used_of
 none_used u size unused = none_in u.places.items u.distinct u.used.items size unused
 
-pub none_before : {A : Type 0} → (u : UsedEntries A) (entries : List A) → AreUsesOf u entries → u.distinct ≡ [] → used_of u ≡ []
-none_before u [] uses none = all_used u uses.no_places ∙ none
-none_before u (x ∷ entries) uses none =
-    used_added u (let count = uses.count in omega arith)
-    ∙ nothing_used u.distinct u.places.items u.marks.items u.used.items (x ∷ entries) uses none
-
-pub used_kept : {A : Type 0} → (old new : UsedEntries A) (entries : List A) (place : ℕ) → AreUsesOf old entries
-    → (old.places.items ≡ [] → old.distinct ≡ []) → new.places.items ≡ old.places.items ++ place ∷ []
-    → new.used.items ≡ old.used.items → used_of new ≡ used_of old
-used_kept old new entries place uses empty pushed same =
-    used_added new (omega (arith, ap length pushed, length_push old.places.items place)) ∙ same ∙ sym (before entries uses)
+-- with one place more the list of what is used counts
+pub used_kept : {A : Type 0} → (old new : UsedEntries A) (place : ℕ) → (old.places.items ≡ [] → old.used.items ≡ old.distinct)
+    → new.places.items ≡ old.places.items ++ place ∷ [] → new.used.items ≡ old.used.items → used_of new ≡ used_of old
+used_kept old new place kept pushed same =
+    used_added new (omega (arith, ap length pushed, length_push old.places.items place)) ∙ same
+    ∙ before old.places.items refl
   where
-    before : (es : _) → AreUsesOf old es → used_of old ≡ old.used.items
-    before [] are = all_used old are.no_places ∙ empty are.no_places ∙ sym are.no_used
-    before (x ∷ es) are = used_added old (let count = are.count in omega arith)
+    before : (ps : List ℕ) → ps ≡ old.places.items → old.used.items ≡ used_of old
+    before [] none = kept (sym none) ∙ sym (all_used old (sym none))
+    before (p ∷ ps) some = sym (used_added old (omega (arith, ap length some)))
 
 -- one of two entries at the places of a longer list
 push_cases : {A : Type 0} → (xs : List A) (x y : A) (i : ℕ) → slice_get (xs ++ x ∷ []) i ≡ Some y

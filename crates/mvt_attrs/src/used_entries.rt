@@ -9,7 +9,7 @@ ghost use Rattle.mvt_attrs.specs.Inner.Finding.{Knows};
 ghost use Rattle.mvt_attrs.specs.Inner.Places.{AreFirstMarks, AreIndices};
 ghost use Rattle.mvt_base.specs.Related.{Extends};
 ghost use Rattle.mvt_attrs.specs.Pools.{key_pool, value_pool};
-ghost use Rattle.mvt_attrs.specs.Using.{AreUsesOf, AreToldUpTo, AreUsedUpTo, HasNoneAdded, HasUses, IsUsedBy, IsUsedUpAt, used_of};
+ghost use Rattle.mvt_attrs.specs.Using.{AreUses, AreUsesOf, AreToldUpTo, AreUsedUpTo, HasNoneAdded, HasUses, IsUsedBy, IsUsedUpAt, used_of};
 
 use crate::apart::index_apart;
 use crate::entry::Entry;
@@ -97,28 +97,44 @@ impl<T: Entry> UsedEntries<T> {
         }
     }
 
-    /// Whether an entry can be added: none is used without it.
-    fn can_grow(&self) -> bool
-        ensures { IsTrue result → self.now.places.items ≡ [] → self.now.distinct ≡ [] }
+    /// Whether no entry was added and none is used.
+    fn is_new(&self) -> bool
+        ensures { IsTrue result → (self.now.places.items ≡ []) × (self.now.distinct ≡ []) }
     {
-        !self.places.is_empty() || self.distinct.is_empty()
+        self.places.is_empty() && self.distinct.is_empty()
     }
 
-    /// Adds an entry after the others.
+    /// Marks those entries as used that attributes brought, before the first one is added.
+    #[inline(always)]
+    fn mark_brought(&mut self) -> Result<(), AllocError>
+        ensures uses { (entries : List T) → AreUsesOf self.old entries → OnOk result
+            (AreUses self.new.distinct self.new.places.items self.new.marks.items
+            self.new.used.items entries) }
+        ensures kept { OnOk result
+            (self.new.places.items ≡ [] → self.new.used.items ≡ self.new.distinct) }
+        ensures used { used_of self.new ≡ used_of self.old }
+    {
+        if !self.places.is_empty() {
+            return Ok(());
+        }
+        let alloc = *self.used.allocator();
+        let brought = copied_all(alloc, self.distinct.entries())?;
+        self.marks = first_marks(alloc, self.distinct.len(), self.distinct.len())?;
+        self.used = brought;
+        Ok(())
+    }
+
+    /// Adds an entry after the others; what attributes brought before stays used.
     ///
     /// # Errors
     ///
-    /// When memory runs out, or attributes were appended before. More entries than the limit don't
-    /// fit any tile.
+    /// When memory runs out. More entries than the limit don't fit any tile.
     pub fn add(&mut self, entry: &T) -> Result<(), AllocError>
         ensures uses { (entries : List T) → AreUsesOf self.old entries
             → OnOk result (AreUsesOf self.new (entries ++ entry.now ∷ [])) }
-        ensures used { (entries : List T) → AreUsesOf self.old entries
-            → used_of self.new ≡ used_of self.old }
+        ensures used { used_of self.new ≡ used_of self.old }
     {
-        if !self.can_grow() {
-            return Err(AllocError);
-        }
+        self.mark_brought()?;
         make_room(&mut self.marks)?;
         make_room(&mut self.places)?;
         let place = match self.distinct.place(entry) {
@@ -138,10 +154,9 @@ impl<T: Entry> UsedEntries<T> {
     pub fn add_all(&mut self, more: &[T]) -> Result<(), AllocError>
         ensures uses { (entries : List T) → AreUsesOf self.old entries
             → OnOk result (AreUsesOf self.new (entries ++ more.now)) }
-        ensures used { (entries : List T) → AreUsesOf self.old entries
-            → used_of self.new ≡ used_of self.old }
+        ensures used { used_of self.new ≡ used_of self.old }
     {
-        if !self.distinct.is_empty() {
+        if !self.is_new() {
             return self.add_each(more);
         }
         let alloc = *self.used.allocator();
@@ -159,10 +174,9 @@ impl<T: Entry> UsedEntries<T> {
     pub fn take_all(&mut self, more: Vec<T>) -> Result<(), AllocError>
         ensures uses { (entries : List T) → AreUsesOf self.old entries
             → OnOk result (AreUsesOf self.new (entries ++ more.items)) }
-        ensures used { (entries : List T) → AreUsesOf self.old entries
-            → used_of self.new ≡ used_of self.old }
+        ensures used { used_of self.new ≡ used_of self.old }
     {
-        if !self.distinct.is_empty() {
+        if !self.is_new() {
             return self.add_each(&more);
         }
         let alloc = *self.used.allocator();
@@ -175,8 +189,7 @@ impl<T: Entry> UsedEntries<T> {
     fn add_each(&mut self, more: &[T]) -> Result<(), AllocError>
         ensures uses { (entries : List T) → AreUsesOf self.old entries
             → OnOk result (AreUsesOf self.new (entries ++ more.now)) }
-        ensures used { (entries : List T) → AreUsesOf self.old entries
-            → used_of self.new ≡ used_of self.old }
+        ensures used { used_of self.new ≡ used_of self.old }
     {
         for entry in more {
             self.add(entry)?;
@@ -192,16 +205,17 @@ impl<T: Entry> UsedEntries<T> {
         entry_index: EntryIndex<T>,
     ) -> Result<(), AllocError>
         requires none { self.old.distinct ≡ [] }
+        requires unplaced { self.old.places.items ≡ [] }
         requires few { length entries.items < LIMIT }
         requires apart { AreDistinct entries.items }
         requires known { Knows T.cmp T.hash_input entry_index entries.items }
         ensures uses { (before : List T) → AreUsesOf self.old before
             → OnOk result (AreUsesOf self.new (before ++ entries.items)) }
-        ensures used { (before : List T) → AreUsesOf self.old before
-            → used_of self.new ≡ used_of self.old }
+        ensures used { used_of self.new ≡ used_of self.old }
     {
         let places = indices(alloc, entries.len())?;
         self.marks = vec![in alloc; 0u32; entries.len()]?;
+        self.used.clear();
         self.places = places;
         self.distinct = Pool::of_apart(alloc, entries, entry_index);
         Ok(())
@@ -209,11 +223,11 @@ impl<T: Entry> UsedEntries<T> {
 
     /// Adds the first entries, of which some may stand twice.
     fn begin_each(&mut self, alloc: Global, entries: &[T]) -> Result<(), AllocError>
-        requires { self.old.distinct ≡ [] }
+        requires none { self.old.distinct ≡ [] }
+        requires unplaced { self.old.places.items ≡ [] }
         ensures uses { (before : List T) → AreUsesOf self.old before
             → OnOk result (AreUsesOf self.new (before ++ entries.now)) }
-        ensures used { (before : List T) → AreUsesOf self.old before
-            → used_of self.new ≡ used_of self.old }
+        ensures used { used_of self.new ≡ used_of self.old }
     {
         self.distinct = Pool::with_slots(alloc, entries.len())?;
         self.add_each(entries)
@@ -286,7 +300,7 @@ fn indices(alloc: Global, count: usize) -> Result<Vec<u32>, AllocError>
 
 /// The marks of so many places, where the first entries are used, in order.
 fn first_marks(alloc: Global, count: usize, used: usize) -> Result<Vec<u32>, AllocError>
-    requires { count < LIMIT }
+    requires { count ≤ LIMIT }
     ensures { IfOk result (λ marks. AreFirstMarks marks.items count used) }
 {
     let mut marks = Vec::with_capacity(alloc, count)?;

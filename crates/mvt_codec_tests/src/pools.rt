@@ -164,8 +164,25 @@ fn guesses_are_compared(rt: HostRuntime) {
         expect_tags(&rt, &attributes, &mut uses, last);
     }
     expect_eq!(rt; uses.keys.used().len() + uses.values.used().len(), 4);
-    let first = attributes.first().expect(&rt, "an attribute");
-    expect!(rt; uses.keys.add(&first.key).is_err());
+    drop(uses);
+    drop(attributes);
+}
+
+// Entries that are added after attributes leave those used that these brought.
+#[test]
+fn brought_entries_stay_used(rt: HostRuntime) {
+    let attributes = letters(rt.alloc()).expect(&rt, "attributes");
+    let mut uses = LayerEntries::new(rt.alloc());
+    expect_tags(&rt, &attributes, &mut uses, &[]);
+    let second = attributes.get(1).expect(&rt, "two attributes");
+    expect!(rt; uses.keys.add(&second.key).is_ok());
+    expect!(rt; uses.values.add(&Value::Uint(3)).is_ok());
+    expect_eq!(rt; uses.keys.used().len() + uses.values.used().len(), 4);
+    let mut tags = Vec::new(rt.alloc());
+    let done = uses.append_used(&[0, 0], &mut tags);
+    expect!(rt; done.is_ok());
+    expect_eq!(rt; tags.as_slice(), [1, 2].as_slice());
+    drop(tags);
     drop(uses);
     drop(attributes);
 }

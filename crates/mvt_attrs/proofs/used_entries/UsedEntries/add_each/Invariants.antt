@@ -5,4 +5,4 @@ use Rattle.mvt_attrs.proofs.used_entries.UsedEntries.add_each.Given as goal
 abbrev pub invariant-loop-entry : goal.invariant-loop-entry
 invariant-loop-entry g l =
     ((entries : List g.row.T.Denot) → AreUsesOf l.fn.self entries → AreUsesOf l.self (entries ++ take l.entry-index l.more))
-    × ((entries : List g.row.T.Denot) → AreUsesOf l.fn.self entries → used_of l.self ≡ used_of l.fn.self)
+    × (used_of l.self ≡ used_of l.fn.self)
