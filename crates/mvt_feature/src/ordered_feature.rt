@@ -1,8 +1,9 @@
 //! A feature whose fields stand in another order than the canonical one, each once, and each as it
 //! is to be written: they are put in order, and their bytes are copied (Mapbox Vector Tile
 //! Specification 2.1, 4.1).
-ghost use Rattle.std.specs.Prelude.{◌≡◌, ◌≢◌, ◌≤◌, ◌<◌, ◌^◌, ◌++◌, [], List, length, None, IfOk, IfSome, OnOk};
+ghost use Rattle.std.specs.Prelude.{◌≡◌, ◌≢◌, ◌≤◌, ◌<◌, ◌^◌, ◌++◌, [], List, length, None, IfOk, IfSome, OnErr, OnOk};
 ghost use Rattle.mvt_attrs.specs.declared.value.Value.{Value as AValue};
+ghost use Rattle.mvt_base.specs.Related.{Extends};
 ghost use Rattle.mvt_geometry.specs.declared.shape.Kind.TheVariants as kinds;
 ghost use Rattle.mvt_wire.specs.Spelling.{spelled};
 ghost use Rattle.mvt_feature.specs.Copying.{AreReady, packed_tags, parts_fields};
@@ -29,7 +30,7 @@ pub fn may_be_ordered(payload: &[u8]) -> bool {
 ///
 /// # Errors
 ///
-/// Where more changes, or the payload isn't a feature. The list is then as it was or a longer one.
+/// Where more changes, or the payload isn't a feature. The list is then unchanged or longer.
 pub fn order_feature(
     alloc: Global,
     payload: &[u8],
@@ -42,6 +43,7 @@ pub fn order_feature(
     ensures ordered { IfOk result (λ after. (held : List AValue) → length held ≡ values
         → AreReady keys.old held used
         → IsOrdered payload.now keys.old held used after out.old.items out.new.items) }
+    ensures left { OnErr result (Extends out.old.items out.new.items) }
     ensures same { keys.new ≡ keys.old }
 {
     let Some(parts) = parts_in_any_order(payload) else {
@@ -184,7 +186,9 @@ fn with_integers<'a>(payload: &'a [u8], at: usize, before: &Parts<'a>) -> Option
 
 /// Appends these parts in the canonical order.
 fn append_parts(out: &mut Vec<u8>, parts: &Parts<'_>) -> Result<(), AllocError>
-    ensures { OnOk result (out.new.items ≡ out.old.items ++ spelled (parts_fields parts.now)) }
+    ensures ok { OnOk result (out.new.items
+        ≡ out.old.items ++ spelled (parts_fields parts.now)) }
+    ensures left { OnErr result (Extends out.old.items out.new.items) }
 {
     append_id(out, parts.id)?;
     append_tags(out, parts.tags)?;
@@ -197,7 +201,8 @@ fn append_parts(out: &mut Vec<u8>, parts: &Parts<'_>) -> Result<(), AllocError>
 }
 
 fn append_tags(out: &mut Vec<u8>, tags: &[u8]) -> Result<(), AllocError>
-    ensures { OnOk result (out.new.items ≡ out.old.items ++ spelled (packed_tags tags.now)) }
+    ensures ok { OnOk result (out.new.items ≡ out.old.items ++ spelled (packed_tags tags.now)) }
+    ensures err { OnErr result (out.new.items ≡ out.old.items) }
 {
     if tags.is_empty() {
         return Ok(());
