@@ -60,6 +60,18 @@ pub fn canonical_reads()
         → IsItem (canonical_item item) item }
 {}
 
+/// The keys and the values that features use: those of valid features can be written, and each
+/// feature has its own among them.
+pub fn pools_of_features()
+    ensures keys { (features : List Feature) → AllByRecursion ValidFeature features
+        → AllByRecursion IsUtf8 (keys_of features) }
+    ensures values { (features : List Feature) → AllByRecursion ValidFeature features
+        → AllByRecursion ValidValue (values_of features) }
+    ensures held { (features : List Feature)
+        → AllByRecursion (λ (f : Feature). AllByRecursion
+        (IsIn (keys_of features) (values_of features)) f.attributes) features }
+{}
+
 /// An item that was valid with positions in the narrow range is valid.
 pub fn old_items_stay()
     ensures { (item : Item) → WasValidItem item → ValidItem item }
