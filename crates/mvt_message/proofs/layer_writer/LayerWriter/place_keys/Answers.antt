@@ -8,7 +8,7 @@ returns c = λ values has.
     on_ok_weaker c.add_all.result
     (λ uses. record {
       uses = (uses, has.uses.1);
-      keys_are = c.add_all.ensures.used [] has.uses.0 ∙ has.no_keys ∙ sym keys_none;
+      keys_are = c.add_all.ensures.used ∙ has.no_keys ∙ sym keys_none;
       values_are = has.no_values ∙ sym values_none;
       written = written_none _ has.no_features;
     }) (c.add_all.ensures.uses [] has.uses.0)

@@ -8,6 +8,6 @@ returns c = λ values has.
     (λ uses. record {
       uses = (has.uses.0, uses);
       no_keys = has.no_keys;
-      no_values = c.take_all.ensures.used values has.uses.1 ∙ has.no_values;
+      no_values = c.take_all.ensures.used ∙ has.no_values;
       no_features = has.no_features;
     }) (c.take_all.ensures.uses values has.uses.1)
