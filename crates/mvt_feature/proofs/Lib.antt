@@ -7,6 +7,7 @@ mod SaidLemmas
 mod FeatureFieldsLemmas
 mod FeatureLemmas
 mod UsualLemmas
+mod ListingLemmas
 mod OrFaultLemmas
 mod WritingLemmas
 mod RewritingLemmas

@@ -18,7 +18,7 @@ use Rattle.mvt_wire.specs.Split.{Parts}
 use Rattle.mvt_feature.specs.declared.feature_fields.FeatureFields.{FeatureFields}
 use Rattle.mvt_feature.specs.declared.numbers.feature.TheConstants.{TAGS, GEOMETRY}
 use Rattle.mvt_feature.specs.FeatureRules.{feature_form_rules}
-use Rattle.mvt_feature.specs.Inner.{id_after, kind_after, numbers_at, AreFeatureFieldsSoFar, AreUsualSoFar}
+use Rattle.mvt_feature.specs.Inner.{id_after, kind_after, numbers_at, AreFeatureFieldsSoFar, AreUsualSoFar, IsBegun}
 use Rattle.mvt_feature.specs.Walks.{Walk}
 use Rattle.mvt_feature.proofs.FeatureFieldsLemmas.{known_with}
 use Rattle.mvt_feature.proofs.FeatureLemmas.{numbers_list}
@@ -55,10 +55,11 @@ pub usual_step : (payload : List ℕ) (payload_at : ℕ) (old new : Parts) (done
     (more : FeatureFields) (tags : List ℕ) (packed : Option (Bor (List ℕ))) → Walk payload old done
     → GivesEntry old (Some field) new → IsOk field
     → IfOk field (λ (f : Field). AreUsualSoFar payload_at (done ++ entry_of f ∷ []) more tags packed)
-    → (all : List Entry) × Walk payload new all × AreUsualSoFar payload_at all more tags packed
-usual_step payload payload_at old new done (Ok field) more tags packed walk step ok so_far =
-    (done ++ entry_of field ∷ [], walk_step payload old new done field walk step, so_far)
-usual_step payload payload_at old new done (Err fault) more tags packed walk step ok so_far = absurd (false≢true ok)
+    → IfOk field (λ (f : Field). IsBegun payload_at (done ++ entry_of f ∷ []) packed)
+    → (all : List Entry) × Walk payload new all × AreUsualSoFar payload_at all more tags packed × IsBegun payload_at all packed
+usual_step payload payload_at old new done (Ok field) more tags packed walk step ok so_far begun =
+    (done ++ entry_of field ∷ [], walk_step payload old new done field walk step, so_far, begun)
+usual_step payload payload_at old new done (Err fault) more tags packed walk step ok so_far begun = absurd (false≢true ok)
 
 -- a geometry of known type was told as parts
 told_by : {V : Type 0} (HasParts : V → List Part → List Point → V → Type 0) (HasIntegers : V → List ℕ → V → Type 0)

@@ -19,6 +19,7 @@ use Rattle.mvt_feature.specs.declared.value.Kinds.TheVariants.{Nothing, One, Sev
 use Rattle.mvt_feature.specs.ValueRefs.{referred_value}
 use Rattle.mvt_feature.specs.Features.{number_of, number_in, kind_of_type, IsFeatureOf}
 use Rattle.mvt_feature.specs.FeatureRules.{numbers_of, joined, kind_in, feature_field_rules}
+use Rattle.mvt_feature.specs.Listing.{IsListedIn}
 use Rattle.mvt_feature.specs.Selection.{last_only}
 use Rattle.mvt_feature.specs.Values.{Means}
 use Rattle.mvt_feature.specs.Walks.{IsSoFar}
@@ -79,6 +80,11 @@ ArePackedIn (Some d) integers = ArePacked d.now integers
 abbrev pub AreUsualSoFar : ℕ → List Entry → FeatureFields → List ℕ → Option (Bor (List ℕ)) → Type 0
 AreUsualSoFar payload_at done known tags packed =
     (integers : List ℕ) → ArePackedIn packed integers → AreFeatureFieldsSoFar payload_at done (Ok known) tags integers
+
+-- the field that has these integers, if there is one, is listed
+abbrev pub IsBegun : ℕ → List Entry → Option (Bor (List ℕ)) → Type 0
+IsBegun payload_at done None = Unit {0}
+IsBegun payload_at done (Some d) = IsListedIn payload_at done
 
 -- the tags and the integers in a scratch, with what is known besides, are those of this feature
 pub record AreOf (keys : List (List ℕ)) (values : List Value) (known : FeatureFields) (scratch : Scratch) (f : Feature) : Type 0 where

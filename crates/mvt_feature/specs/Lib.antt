@@ -9,6 +9,7 @@ pub mod ValueRules
 pub mod ValueIn
 pub mod Features
 pub mod FeatureRules
+pub mod Listing
 pub mod Canonical
 pub mod Rewriting
 pub mod Valid

@@ -1,5 +1,5 @@
 //! The known fields of a feature (Mapbox Vector Tile Specification 2.1, 4.1, message Feature).
-ghost use Rattle.std.specs.Prelude.{◌≡◌, ◌+◌, ◌^◌, ◌<◌, List, [], ◌++◌, length, Option, Some, None, Ok, IfOk, IfErr, OnOk};
+ghost use Rattle.std.specs.Prelude.{◌≡◌, ◌⊎◌, ◌+◌, ◌^◌, ◌<◌, List, [], ◌++◌, length, Option, Some, None, Ok, IfOk, IfErr, IsErrOf, OnOk};
 ghost use Rattle.std.specs.Option.{option_or, option_map};
 ghost use Rattle.mvt_base.specs.Reports.{Reports};
 ghost use Rattle.mvt_base.specs.Rules.{each, first};
@@ -13,6 +13,7 @@ ghost use Rattle.mvt_feature.specs.Features.{number_of, kind_of_type};
 ghost use Rattle.mvt_feature.specs.FeatureRules.{numbers_of, list_rules, feature_form_rules, feature_field_rules};
 ghost use Rattle.mvt_feature.specs.Forms.{any_varint, geom_type, form_rules};
 ghost use Rattle.mvt_feature.specs.Inner.{id_after, kind_after, numbers_at, AreFeatureFields, AreFeatureFieldsSoFar};
+ghost use Rattle.mvt_feature.specs.Listing.{ListsNumbers};
 ghost use Rattle.mvt_feature.specs.Walks.{Walk};
 
 use crate::cause::Cause;
@@ -55,6 +56,7 @@ pub(crate) fn read_fields(
     ensures err { IfErr result (λ error. Reports (fault_of error) (option_or
         (first (rest_rules payload_at (split payload.now)))
         (first (each (λ _. feature_field_rules payload_at) [] (split payload.now).fields)))) }
+    ensures memory { IsErrOf result MessageError.Memory → ListsNumbers payload.now payload_at }
 {
     let mut fields = Fields::new(payload);
     let front = read_front(&mut fields, payload, payload_at, scratch)?;
@@ -89,6 +91,7 @@ pub(crate) fn read_front(
     ensures err { IfErr result (λ error. Reports (fault_of error) (option_or
         (first (rest_rules payload_at (split payload.now)))
         (first (each (λ _. feature_field_rules payload_at) [] (split payload.now).fields)))) }
+    ensures memory { IsErrOf result MessageError.Memory → ListsNumbers payload.now payload_at }
 {
     scratch.tags.clear();
     scratch.integers.clear();
@@ -124,6 +127,8 @@ impl FeatureFields {
         ensures err { IfErr result (λ error. Reports (fault_of error) (option_or
             (first (rest_rules payload_at (split payload.now)))
             (first (each (λ _. feature_field_rules payload_at) [] (split payload.now).fields)))) }
+        ensures memory { IsErrOf result MessageError.Memory
+            → ListsNumbers payload.now payload_at }
     {
         match fields.next_tagged(tag) {
             None => Ok(self),
@@ -159,6 +164,8 @@ impl FeatureFields {
         ensures err { IfErr result (λ error. Reports (fault_of error)
             (option_map (the_fault_at at) (first
             (feature_form_rules field.now.number (content_of field.now.payload))))) }
+        ensures memory { IsErrOf result MessageError.Memory
+            → (field.now.number ≡ TAGS) ⊎ (field.now.number ≡ GEOMETRY) }
     {
         let payload = &field.payload;
         let mut known = self;
@@ -180,6 +187,7 @@ fn id_of(payload: &Payload<'_>, at: u64) -> Result<u64, MessageError>
     ensures err { IfErr result
         (λ error. Reports (fault_of error)
         (option_map (the_fault_at at) (first (form_rules any_varint (content_of payload.now))))) }
+    ensures never { IsErrOf result MessageError.Memory → ⊥ }
 {
     match varint_of(payload) {
         Ok(number) => Ok(number),
@@ -194,6 +202,7 @@ fn kind_of_payload(payload: &Payload<'_>, at: u64) -> Result<Kind, MessageError>
     ensures err { IfErr result
         (λ error. Reports (fault_of error)
         (option_map (the_fault_at at) (first (form_rules geom_type (content_of payload.now))))) }
+    ensures never { IsErrOf result MessageError.Memory → ⊥ }
 {
     let Payload::Varint(number) = payload else {
         return Err(fault_at(at, Cause::WrongType));

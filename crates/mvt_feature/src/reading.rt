@@ -1,5 +1,5 @@
 //! Reading features (Mapbox Vector Tile Specification 2.1, 4.1, message Feature).
-ghost use Rattle.std.specs.Prelude.{◌≡◌, ◌≢◌, ◌+◌, ◌^◌, ◌<◌, List, length, None, IfOk, IfErr, OnOk};
+ghost use Rattle.std.specs.Prelude.{◌≡◌, ◌≢◌, ◌⊎◌, ◌+◌, ◌^◌, ◌<◌, List, length, None, IfOk, IfErr, IsErrOf, OnOk};
 ghost use Rattle.mvt_base.specs.Reports.{Reports};
 ghost use Rattle.mvt_attrs.specs.declared.value.Value.{Value};
 ghost use Rattle.mvt_geometry.specs.Visiting.{HasDrawn};
@@ -8,6 +8,7 @@ ghost use Rattle.mvt_feature.specs.Drawn.{tags_of, IsDrawnOf};
 ghost use Rattle.mvt_feature.specs.Features.{IsFeatureOf};
 ghost use Rattle.mvt_feature.specs.FeatureRules.{feature_fault};
 ghost use Rattle.mvt_feature.specs.Inner.{IsJudged};
+ghost use Rattle.mvt_feature.specs.Listing.{ListsNumbers};
 
 use crate::feature::Feature;
 use crate::feature_fields::{FeatureFields, read_fields};
@@ -101,6 +102,9 @@ pub fn draw_feature<V: GeometryVisitor>(
         → feature_fault payload.now payload_at keys.old held ≡ None) }
     ensures err { IfErr result (λ error. (held : List Value) → length held ≡ values
         → Reports (fault_of error) (feature_fault payload.now payload_at keys.old held)) }
+    ensures memory { IsErrOf result MessageError.Memory → ListsNumbers payload.now payload_at
+        ⊎ ((held : List Value) → length held ≡ values
+        → feature_fault payload.now payload_at keys.old held ≡ None) }
     ensures untold { (held : List Value) → length held ≡ values
         → feature_fault payload.now payload_at keys.old held ≢ None → visitor.new ≡ visitor.old }
     ensures same { keys.new ≡ keys.old }
@@ -132,6 +136,7 @@ pub fn judge_feature(
         → feature_fault payload.now payload_at keys.old held ≡ None) }
     ensures err { IfErr result (λ error. (held : List Value) → length held ≡ values
         → Reports (fault_of error) (feature_fault payload.now payload_at keys.old held)) }
+    ensures memory { IsErrOf result MessageError.Memory → ListsNumbers payload.now payload_at }
     ensures same { keys.new ≡ keys.old }
 {
     judge_into_scratch(alloc, payload, payload_at, keys, values, scratch)?;
@@ -154,6 +159,7 @@ pub(crate) fn judge_into_scratch(
         → feature_fault payload.now payload_at keys.old held ≡ None) }
     ensures err { IfErr result (λ error. (held : List Value) → length held ≡ values
         → Reports (fault_of error) (feature_fault payload.now payload_at keys.old held)) }
+    ensures memory { IsErrOf result MessageError.Memory → ListsNumbers payload.now payload_at }
     ensures same { keys.new ≡ keys.old }
 {
     let known = read_fields(payload, payload_at, scratch)?;

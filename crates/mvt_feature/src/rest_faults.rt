@@ -1,5 +1,5 @@
 //! Payloads that don't split wholly into fields.
-ghost use Rattle.std.specs.Prelude.{◌≡◌, ◌+◌, ◌^◌, ◌<◌, length, None, Option};
+ghost use Rattle.std.specs.Prelude.{◌≡◌, ◌+◌, ◌^◌, ◌<◌, [], length, None, Option};
 ghost use Rattle.std.specs.Option.{option_or};
 ghost use Rattle.mvt_base.specs.Reports.{Reports};
 ghost use Rattle.mvt_base.specs.Rules.{first};
@@ -32,6 +32,7 @@ pub(crate) fn rest_fault_before(
         → Reports (fault_of result) (option_or
         (first (rest_rules payload_at (split payload.now))) fault) }
     ensures memory { result ≡ MessageError.Memory → error ≡ MessageError.Memory }
+    ensures whole { result ≡ MessageError.Memory → (split payload.now).rest ≡ [] }
 {
     for field in Fields::new(payload) {
         match field {

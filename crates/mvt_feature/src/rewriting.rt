@@ -1,6 +1,6 @@
 //! Features made canonical from their payloads, with tags by index (Mapbox Vector Tile
 //! Specification 2.1, 4.2).
-ghost use Rattle.std.specs.Prelude.{◌≡◌, ℕ, ◌+◌, ◌^◌, ◌<◌, ◌++◌, List, length, None, IfOk, IfErr, OnErr, OnOk};
+ghost use Rattle.std.specs.Prelude.{◌≡◌, ◌⊎◌, ℕ, ◌+◌, ◌^◌, ◌<◌, ◌++◌, List, length, None, IfOk, IfErr, IsErrOf, OnErr, OnOk};
 ghost use Rattle.mvt_base.specs.Related.{Extends};
 ghost use Rattle.mvt_base.specs.Reports.{Reports};
 ghost use Rattle.mvt_attrs.specs.declared.value.Value.{Value};
@@ -12,6 +12,7 @@ ghost use Rattle.mvt_feature.specs.Faults.{fault_of};
 ghost use Rattle.mvt_feature.specs.Features.{IsFeatureOf};
 ghost use Rattle.mvt_feature.specs.FeatureRules.{feature_fault};
 ghost use Rattle.mvt_feature.specs.Inner.{AreOf};
+ghost use Rattle.mvt_feature.specs.Listing.{ListsNumbers};
 ghost use Rattle.mvt_feature.specs.Rewriting.{IsRewritten};
 
 use crate::copied_integers::append_copied;
@@ -50,6 +51,9 @@ pub fn rewrite_feature(
     ensures err { (held : List Value) → HasUses uses.old keys.old held
         → IfErr result (λ error. Reports (fault_of error)
         (feature_fault payload.now payload_at keys.old held)) }
+    ensures memory { IsErrOf result MessageError.Memory → ListsNumbers payload.now payload_at
+        ⊎ ((held : List Value) → HasUses uses.old keys.old held
+        → feature_fault payload.now payload_at keys.old held ≡ None) }
     ensures left { OnErr result (Extends out.old.items out.new.items) }
     ensures same { keys.new ≡ keys.old }
 {

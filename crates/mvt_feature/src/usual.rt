@@ -1,6 +1,6 @@
 //! Features whose integers are packed in one field, as most programs write them: their geometry is
 //! passed to a visitor straight from its bytes, without a list of integers.
-ghost use Rattle.std.specs.Prelude.{◌≡◌, ◌≢◌, ◌+◌, ◌^◌, ◌<◌, ℕ, List, [], ◌∷◌, ◌++◌, length, None, IfOk, IfErr, IfSome, IfNone, IsOk, OnOk, OnSome};
+ghost use Rattle.std.specs.Prelude.{◌≡◌, ◌≢◌, ◌+◌, ◌^◌, ◌<◌, ℕ, List, [], ◌∷◌, ◌++◌, length, None, IfOk, IfErr, IfSome, IfNone, IsErrOf, IsOk, OnErr, OnOk, OnSome};
 ghost use Rattle.mvt_base.specs.Reports.{Reports};
 ghost use Rattle.mvt_base.specs.Rules.{each, first};
 ghost use Rattle.mvt_attrs.specs.declared.value.Value.{Value};
@@ -14,7 +14,8 @@ ghost use Rattle.mvt_feature.specs.declared.numbers.feature.TheConstants.{GEOMET
 ghost use Rattle.mvt_feature.specs.Drawn.{tags_of, IsDrawnOf};
 ghost use Rattle.mvt_feature.specs.Faults.{fault_of};
 ghost use Rattle.mvt_feature.specs.FeatureRules.{feature_fault, feature_field_rules};
-ghost use Rattle.mvt_feature.specs.Inner.{AreFeatureFields, AreUsualSoFar};
+ghost use Rattle.mvt_feature.specs.Inner.{AreFeatureFields, AreUsualSoFar, IsBegun};
+ghost use Rattle.mvt_feature.specs.Listing.{ListsNumbers};
 ghost use Rattle.mvt_feature.specs.Walks.{Walk};
 
 use crate::feature_fields::{FeatureFields, GEOMETRY_TAG, read_front};
@@ -55,6 +56,7 @@ pub fn draw_usual_feature<V: GeometryVisitor>(
         → feature_fault payload.now payload_at keys.old held ≡ None)) }
     ensures told { IfOk result (λ found. IfNone found ((parts : List Part)
         × (begun : List APoint) × V.has_parts visitor.old parts begun visitor.new)) }
+    ensures memory { OnErr result (ListsNumbers payload.now payload_at) }
     ensures same { keys.new ≡ keys.old }
 {
     let (known, integers) = match usual_fields(payload, payload_at, scratch)? {
@@ -91,6 +93,7 @@ pub fn check_feature(
         → feature_fault payload.now payload_at keys.old held ≡ None) }
     ensures err { IfErr result (λ error. (held : List Value) → length held ≡ values
         → Reports (fault_of error) (feature_fault payload.now payload_at keys.old held)) }
+    ensures memory { IsErrOf result MessageError.Memory → ListsNumbers payload.now payload_at }
     ensures same { keys.new ≡ keys.old }
 {
     let found = draw_usual_feature(
@@ -126,6 +129,8 @@ fn usual_fields<'a>(
         → ArePacked f.1.now integers
         → AreFeatureFields (split payload.now).fields f.0 scratch.new.tags.items integers)) }
     ensures kind { IfOk result (λ found. IfSome found (λ f. f.0.kind ≢ kinds.Unknown)) }
+    ensures listed { IfOk result (λ found. OnSome found (ListsNumbers payload.now payload_at)) }
+    ensures memory { OnErr result (ListsNumbers payload.now payload_at) }
 {
     let mut fields = Fields::new(payload);
     let known = match read_front(&mut fields, payload, payload_at, scratch) {
@@ -168,10 +173,13 @@ impl<'a> Usual<'a> {
         scratch: &mut Scratch,
     ) -> Option<Self>
         requires { (done : List Entry) × Walk payload.now fields.to_come done
-            × AreUsualSoFar payload_at done self.known scratch.old.tags.items self.integers }
+            × AreUsualSoFar payload_at done self.known scratch.old.tags.items self.integers
+            × IsBegun payload_at done self.integers }
         ensures whole { OnSome result ((split payload.now).rest ≡ []) }
         ensures known { IfSome result (λ usual. AreUsualSoFar payload_at (split payload.now).fields
             usual.known scratch.new.tags.items usual.integers) }
+        ensures begun { IfSome result (λ usual. IsBegun payload_at (split payload.now).fields
+            usual.integers) }
     {
         let mut usual = self;
         if let Some(field) = fields.next_tagged(GEOMETRY_TAG) {
@@ -196,6 +204,11 @@ impl<'a> Usual<'a> {
             self.entry.known scratch.old.tags.items self.entry.integers
             → IfSome result (λ usual. IfOk field.entry (λ field. AreUsualSoFar payload_at
             (done ++ entry_of field ∷ []) usual.known scratch.new.tags.items usual.integers)) }
+        ensures begun { (payload_at : ℕ) (done : List Entry) → AreUsualSoFar payload_at done
+            self.entry.known scratch.old.tags.items self.entry.integers
+            → IsBegun payload_at done self.entry.integers
+            → IfSome result (λ usual. IfOk field.entry (λ field. IsBegun payload_at
+            (done ++ entry_of field ∷ []) usual.integers)) }
         ensures read { OnSome result (IsOk field.entry) }
     {
         let Ok(field) = field else {
@@ -217,10 +230,14 @@ impl<'a> Usual<'a> {
     #[inline(always)]
     fn with_integers(self, field: &Field<'a>) -> Option<Self>
         requires { field.now.number ≡ GEOMETRY }
-        ensures { (payload_at : ℕ) (done : List Entry) (tags : List ℕ)
+        ensures known { (payload_at : ℕ) (done : List Entry) (tags : List ℕ)
             → AreUsualSoFar payload_at done self.entry.known tags self.entry.integers
             → IfSome result (λ usual. AreUsualSoFar payload_at (done ++ entry_of field.now ∷ [])
             usual.known tags usual.integers) }
+        ensures begun { (payload_at : ℕ) (done : List Entry) (tags : List ℕ)
+            → AreUsualSoFar payload_at done self.entry.known tags self.entry.integers
+            → IfSome result (λ usual. IsBegun payload_at (done ++ entry_of field.now ∷ [])
+            usual.integers) }
     {
         match (self.integers, field.payload) {
             (None, Payload::Len(integers)) => Some(Usual {

@@ -1,5 +1,5 @@
 //! Whether integers draw a geometry: one pass over them, without memory.
-ghost use Rattle.std.specs.Prelude.{◌≡◌, ◌≢◌, ◌+◌, ◌*◌, ◌/◌, ◌%◌, ◌-◌, ◌<◌, ◌≤◌, ◌^◌, ℕ, suc, Bool, true, ℤ, pos, List, [], ◌∷◌, ◌++◌, length, drop, slice_index, ◌==◌, ◌&&◌, IfOk, IfErr, OnOk, OnErr, IsTrue, ◌↔◌, IfSome, IfNone, ◌+ℤ◌};
+ghost use Rattle.std.specs.Prelude.{◌≡◌, ◌≢◌, ◌+◌, ◌*◌, ◌/◌, ◌%◌, ◌-◌, ◌<◌, ◌≤◌, ◌^◌, ℕ, suc, Bool, true, ℤ, pos, List, [], ◌∷◌, ◌++◌, length, drop, slice_index, ◌==◌, ◌&&◌, IfOk, IfErr, IsErrOf, OnOk, OnErr, IsTrue, ◌↔◌, IfSome, IfNone, ◌+ℤ◌};
 ghost use Rattle.std.specs.Int.RustNames.{unsigned_abs};
 ghost use Rattle.mvt_base.specs.Rules.{first, rows, each};
 ghost use Rattle.mvt_geometry.specs.declared.shape.Geometry.{Geometry};
@@ -41,6 +41,7 @@ pub fn judge_geometry(kind: Kind, integers: &[u32]) -> Result<(), GeometryError>
     ensures ok { OnOk result (geometry_fault kind integers.now ≡ None) }
     ensures err { IfErr result (λ e. Reports e (geometry_fault kind integers.now)) }
     ensures fault { OnErr result (geometry_fault kind integers.now ≢ None) }
+    ensures never { IsErrOf result GeometryError.Memory → ⊥ }
 {
     judge(kind, integers)?;
     Ok(())

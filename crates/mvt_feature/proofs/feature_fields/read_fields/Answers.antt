@@ -1,7 +1,9 @@
-use Rattle.std.proofs.Common.{[], ◌∷◌, ◌++◌, Ok, Err}
+use Rattle.std.proofs.Common.{◌≡◌, [], ◌∷◌, ◌++◌, Ok, Err, ap}
 use Rattle.mvt_base.proofs.RuleLemmas.{option_or-some}
 use Rattle.mvt_wire.specs.Field.{entry_of}
 use Rattle.mvt_feature.proofs.FeatureFieldsLemmas.{known_with}
+use Rattle.mvt_feature.specs.declared.message_error.MessageError.TheVariants.{Memory}
+use Rattle.mvt_feature.proofs.ListingLemmas.{listed_next}
 use Rattle.mvt_feature.proofs.WalkLemmas.{walk_step, walk_fault}
 use Rattle.mvt_feature.proofs.feature_fields.read_fields.Goals as goal
 
@@ -35,3 +37,15 @@ returns-in-Err-clause-err c =
     rw c.rest_fault.ensures
     (option_or-some _ _ _
     (walk_fault _ _ c.next.new.self.to_come _ _ _ c.loop-field.invariant.1 (rw c.in-Err.is at c.in-Some.ensures.steps).0))
+
+pub returns-in-Err-with-clause-memory : goal.returns-in-Err-with-clause-memory
+returns-in-Err-with-clause-memory c = λ h.
+    let done = c.loop-field.invariant.0 in
+    let step = (rw c.in-Ok.is at c.in-Some.ensures.steps).0 in
+    let is : c.rest_fault_before.result ≡ Memory = cc in
+    listed_next c.args.payload.now _ c.next.new.self.to_come done c.in-Ok.field c.args.payload_at c.loop-field.invariant.1 step
+    c.loop-field.invariant.2.0 (c.rest_fault_before.ensures.whole is)
+    (c.in-Err-with.ensures.memory (ap Err (c.rest_fault_before.ensures.memory is)))
+
+pub returns-in-Err-clause-memory : goal.returns-in-Err-clause-memory
+returns-in-Err-clause-memory c = λ h. let is = c.rest_fault.ensures in absurd cc

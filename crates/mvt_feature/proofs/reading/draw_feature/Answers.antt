@@ -1,6 +1,8 @@
-use Rattle.std.proofs.Common.{refl}
+use Rattle.std.proofs.Common.{Err, inl, inr, ap, refl}
 use Rattle.std.proofs.lemmas.Result.{err_from_is_err_and}
 use Rattle.mvt_attrs.proofs.AttrsLaws.{attributes_or_fault_there}
+use Rattle.mvt_geometry.proofs.GeometryLaws.{drawn_is_faultless}
+use Rattle.mvt_feature.proofs.ListingLemmas.{geometry_memory, tag_memory, tags_listed}
 use Rattle.mvt_feature.proofs.FeatureLemmas.{Says, known_reported, tags_reported, drawing_reported, feature_clean, feature_from}
 use Rattle.mvt_feature.proofs.reading.draw_feature.Goals as goal
 
@@ -68,3 +70,27 @@ returns-clause-untold g c =
     λ held e faulty. absurd (faulty (feature_clean says c.args.keys.now held
     (rw c.deref.ensures.value at (c.in_ok-judge_tags.ensures.ok held e))
     (rw c.deref-2.ensures.value at c.in_ok-draw_geometry.ensures.ok)))
+
+pub returns-in_err-known-clause-memory : goal.returns-in_err-known-clause-memory
+returns-in_err-known-clause-memory g c = λ h.
+    let p = err_from_is_err_and c.from_residual.result c.from_residual.ensures.1 in
+    inl (c.in_err-known.ensures.memory (let k = rw p.1 at h in let q = p.2 in cc))
+
+pub returns-in_err-judge_tags-clause-memory : goal.returns-in_err-judge_tags-clause-memory
+returns-in_err-judge_tags-clause-memory g c = λ h.
+    let p = err_from_is_err_and c.from_residual-in_err-judge_tags.result c.from_residual-in_err-judge_tags.ensures.1 in
+    let known = c.in_ok-known.ensures in
+    let says : Says c.args.payload.now c.args.payload_at _ _ _ = record { whole = known.whole; clean = known.ok; known_is = known.known } in
+    let is = tag_memory c.in_err-judge_tags.field-0.0 (let k = rw p.1 at h in let q = p.2 in cc) in
+    inl (tags_listed says (rw c.deref.ensures.value at (c.in_err-judge_tags.ensures.memory (ap Err is))))
+
+pub returns-in_err-draw_geometry-clause-memory : goal.returns-in_err-draw_geometry-clause-memory
+returns-in_err-draw_geometry-clause-memory g c = λ h.
+    let p = err_from_is_err_and c.from_residual-in_err-draw_geometry.result c.from_residual-in_err-draw_geometry.ensures.1 in
+    let known = c.in_ok-known.ensures in
+    let says : Says c.args.payload.now c.args.payload_at _ _ _ = record { whole = known.whole; clean = known.ok; known_is = known.known } in
+    let is = geometry_memory c.in_err-draw_geometry.field-0.0 (let k = rw p.1 at h in let q = p.2 in cc) in
+    let drawn = c.in_err-draw_geometry.ensures.memory (ap Err is) in
+    inr (λ held e. feature_clean says c.args.keys.now held
+    (rw c.deref.ensures.value at (c.in_ok-judge_tags.ensures.ok held e))
+    (rw c.deref-2.ensures.value at (drawn_is_faultless _ _ drawn.0 drawn.1)))

@@ -38,3 +38,9 @@ returns-clause-reported c = λ fault reported_here.
     let end = walk_end _ _ _ _ c.loop-field.invariant.1 c.in-None.ensures.steps.0 in
     subst (λ o. Reports (fault_of c.args.error) (option_or o fault))
     (sym (rest_none c.args.payload_at (split c.args.payload.now) end.1)) reported_here
+
+pub returns-in-Err-clause-whole : goal.returns-in-Err-clause-whole
+returns-in-Err-clause-whole c = λ h. let is = c.rest_fault.ensures in absurd cc
+
+pub returns-clause-whole : goal.returns-clause-whole
+returns-clause-whole c = λ h. (walk_end _ _ _ _ c.loop-field.invariant.1 c.in-None.ensures.steps.0).1

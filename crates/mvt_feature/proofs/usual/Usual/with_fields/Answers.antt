@@ -11,7 +11,8 @@ loop-field-init c =
           rw (begun, w.usual-is, w.scratch-is)
           (usual_step c.args.payload.now c.args.payload_at c.args.fields.to_come c.next_tagged.new.self.to_come c.requires.0 w.in-Some.field
           w.in-Some-with_field.more.known w.with_field.new.scratch.tags.items w.in-Some-with_field.more.integers c.requires.1
-          w.in-Some.ensures.some.0 read.read (read.known c.args.payload_at c.requires.0 c.requires.2))
+          w.in-Some.ensures.some.0 read.read (read.known c.args.payload_at c.requires.0 c.requires.2)
+          (read.begun c.args.payload_at c.requires.0 c.requires.2 c.requires.3))
       | in_default w ↦ rw (begun, w.in_default.ensures.none, w.usual-is, w.scratch-is) c.requires
     ]
 
@@ -21,3 +22,4 @@ loop-field-preserved c =
     let read = c.in-Some-with_field-2.ensures in
     usual_step c.args.payload.now c.args.payload_at _ _ done c.in-Some-field.field c.in-Some-with_field-2.more.known _ _
     c.loop-field.invariant.1 c.in-Some-field.ensures.steps.0 read.read (read.known c.args.payload_at done c.loop-field.invariant.2)
+    (read.begun c.args.payload_at done c.loop-field.invariant.2 c.loop-field.invariant.3)
