@@ -6,8 +6,8 @@ ghost use Rattle.mvt_attrs.specs.FirstUse.{AreDistinct};
 ghost use Rattle.mvt_attrs.specs.FirstUses.{AreFirstUses, IsUseOf};
 ghost use Rattle.mvt_attrs.specs.Tags.{Names};
 
-/// How many keys and values of a layer are used after these tags, if this many were used before and
-/// each new one is the next in order. `None` if a tag names one beyond the next.
+/// How many keys and values of a layer are used after these tags, if this many were used before.
+/// `Some` means that each new one is the next in order; `None` costs speed alone.
 pub fn first_uses(tags: &[u32], keys: usize, values: usize) -> Option<(usize, usize)>
     ensures { (all_keys : List (List ℕ)) (all_values : List AValue) (attributes : List Attribute)
         → AreDistinct all_keys → AreDistinct all_values

@@ -1,11 +1,12 @@
 //! A feature whose fields stand in another order than the canonical one, each once, and each as it
 //! is to be written: they are put in order, and their bytes are copied (Mapbox Vector Tile
 //! Specification 2.1, 4.1).
-ghost use Rattle.std.specs.Prelude.{◌≡◌, ◌≢◌, ◌≤◌, ◌<◌, ◌^◌, ◌++◌, [], List, length, None, IfOk, IfSome, OnErr, OnOk};
+ghost use Rattle.std.specs.Prelude.{◌≡◌, ◌≢◌, ◌≤◌, ◌<◌, ◌^◌, ◌++◌, [], List, length, None, IfOk, IfSome, IsTrue, OnErr, OnOk};
 ghost use Rattle.mvt_attrs.specs.declared.value.Value.{Value as AValue};
 ghost use Rattle.mvt_base.specs.Related.{Extends};
 ghost use Rattle.mvt_geometry.specs.declared.shape.Kind.TheVariants as kinds;
 ghost use Rattle.mvt_wire.specs.Spelling.{spelled};
+ghost use Rattle.mvt_feature.specs.declared.canonical_feature.Parts.{Parts as TheParts};
 ghost use Rattle.mvt_feature.specs.Copying.{AreReady, packed_tags, parts_fields};
 ghost use Rattle.mvt_feature.specs.Ordering.{AreMet, IsInAnyOrder, IsOrdered};
 
@@ -19,8 +20,11 @@ use mvt_geometry::{Ignore, Kind};
 use mvt_wire::{Payload, put_field, short_bytes_at, short_number_at};
 use std::alloc::{AllocError, Global};
 
-/// Whether the fields of a payload may be put in order by [`order_feature`].
-pub fn may_be_ordered(payload: &[u8]) -> bool {
+/// Whether the fields of a payload may be put in order by [`order_feature`]. Yes means that they are
+/// a feature's parts, each once; no costs speed alone.
+pub fn may_be_ordered(payload: &[u8]) -> bool
+    ensures { IsTrue result → (parts : TheParts) × IsInAnyOrder payload.now parts }
+{
     parts_in_any_order(payload).is_some()
 }
 
@@ -54,7 +58,8 @@ pub fn order_feature(
     Ok(known.used)
 }
 
-/// The parts of a payload whose fields are these, each once, in any order.
+/// The parts of a payload whose fields are these, in any order. `Some` means that each stands once;
+/// `None` costs speed alone.
 fn parts_in_any_order(payload: &[u8]) -> Option<Parts<'_>>
     ensures parts { IfSome result (IsInAnyOrder payload.now) }
     ensures id { IfSome result (λ parts. IfSome parts.id (λ n. n < 2 ^ 64)) }

@@ -1,6 +1,6 @@
 //! Features whose integers are packed in one field, as most programs write them: their geometry is
 //! passed to a visitor straight from its bytes, without a list of integers.
-ghost use Rattle.std.specs.Prelude.{◌≡◌, ◌≢◌, ◌+◌, ◌^◌, ◌<◌, ℕ, List, [], ◌∷◌, ◌++◌, length, None, IfOk, IfErr, IfSome, IfNone, IsErrOf, IsOk, OnErr, OnOk, OnSome};
+ghost use Rattle.std.specs.Prelude.{◌≡◌, ◌≢◌, ◌+◌, ◌^◌, ◌<◌, ℕ, List, [], ◌∷◌, ◌++◌, length, None, IfOk, IfErr, IfSome, IfNone, IsErrOf, IsOk, IsTrue, OnErr, OnOk, OnSome};
 ghost use Rattle.mvt_base.specs.Reports.{Reports};
 ghost use Rattle.mvt_base.specs.Rules.{each, first};
 ghost use Rattle.mvt_attrs.specs.declared.value.Value.{Value};
@@ -10,7 +10,7 @@ ghost use Rattle.mvt_geometry.specs.Visiting.{HasDrawn, Part};
 ghost use Rattle.mvt_wire.specs.Field.{Entry, entry_of};
 ghost use Rattle.mvt_wire.specs.Packed.{ArePacked};
 ghost use Rattle.mvt_wire.specs.Split.{split};
-ghost use Rattle.mvt_feature.specs.declared.numbers.feature.TheConstants.{GEOMETRY};
+ghost use Rattle.mvt_feature.specs.declared.numbers.feature.TheConstants.{TAGS, GEOMETRY};
 ghost use Rattle.mvt_feature.specs.Drawn.{tags_of, IsDrawnOf};
 ghost use Rattle.mvt_feature.specs.Faults.{fault_of};
 ghost use Rattle.mvt_feature.specs.FeatureRules.{feature_fault, feature_field_rules};
@@ -253,9 +253,12 @@ impl<'a> Usual<'a> {
 /// so broken ones are told before work grows with what stands after them.
 const MOST_BEHIND: usize = 1024;
 
-/// Whether a field after the integers may have more tags than these, where there are so many.
+/// Whether a field after the integers may have more tags than these, where there are so many. Yes
+/// means that it has tags; no costs speed alone.
 #[inline(always)]
-fn is_much(field: &Field<'_>, tags: usize) -> bool {
+fn is_much(field: &Field<'_>, tags: usize) -> bool
+    ensures { IsTrue result → field.now.number ≡ TAGS }
+{
     if field.number != feature::TAGS {
         return false;
     }

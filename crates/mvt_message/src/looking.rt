@@ -39,7 +39,8 @@ pub(crate) struct Counts {
 }
 
 /// Whether the fields of the first feature may stand in the canonical order, by its first bytes. If
-/// there is none, only few bytes may follow: keys and values in front of features are more.
+/// there is none, only few bytes may follow: keys and values in front of features are more. Yes
+/// means nothing yet; no costs speed alone.
 pub(crate) fn may_begin_in_order(body: &[u8], features_at: usize) -> bool
     requires { features_at ≤ length body.now }
 {
@@ -50,7 +51,7 @@ pub(crate) fn may_begin_in_order(body: &[u8], features_at: usize) -> bool
 }
 
 /// Whether the fields of the first feature may stand in the canonical order or be put in it. Where
-/// there is none, only few bytes may follow.
+/// there is none, only few bytes may follow. Yes means nothing yet; no costs speed alone.
 pub(crate) fn may_be_put_in_order(body: &[u8], features_at: usize) -> bool
     requires { features_at ≤ length body.now }
 {
@@ -61,7 +62,8 @@ pub(crate) fn may_be_put_in_order(body: &[u8], features_at: usize) -> bool
 }
 
 /// How many keys and values stand from an offset on, in front of a feature whose fields may be put
-/// in order. `None` where anything else stands, or there are many.
+/// in order. `Some` means nothing yet; `None`, where anything else stands or there are many, costs
+/// speed alone.
 pub(crate) fn counts_in_front(body: &[u8], keys_at: usize) -> Option<Counts>
     requires { keys_at ≤ length body.now }
 {
@@ -75,7 +77,7 @@ pub(crate) fn counts_in_front(body: &[u8], keys_at: usize) -> Option<Counts>
 
 /// Whether the fields of the feature at an offset may stand in the canonical order already, so that
 /// tags or spellings are what isn't canonical. One of a type and integers alone may be meant to be
-/// copied.
+/// copied. Yes or no costs speed alone.
 pub(crate) fn stands_in_order(body: &[u8], at: usize) -> bool
     requires { at ≤ length body.now }
 {
@@ -86,6 +88,7 @@ pub(crate) fn stands_in_order(body: &[u8], at: usize) -> bool
 }
 
 /// Whether a feature begins with tags, or is a type and integers alone, after an id if it has one.
+/// Yes means that what begins with a type is a type and integers; no costs speed alone.
 fn may_be_in_order(payload: &[u8]) -> bool
     ensures typed { (kind : ℕ) (rest : List ℕ) → payload.now ≡ 24 ∷ (kind ∷ rest)
         → IsTrue result → (integers : List ℕ) × (rest ≡ short_field GEOMETRY (bytes integers)) }
@@ -146,7 +149,8 @@ pub(crate) fn counts_from(
     Ok(None)
 }
 
-/// Whether a payload ends at an offset, or an extent or a version may stand there.
+/// Whether a payload ends at an offset, or an extent or a version may stand there. Yes means
+/// nothing yet; no costs speed alone.
 fn may_end_behind(body: &[u8], at: usize) -> bool
     requires { at ≤ length body.now }
     ensures { at ≡ length body.now → IsTrue result }
@@ -203,7 +207,8 @@ fn are_first_apart(
     are_distinct(alloc, &first[..count])
 }
 
-/// Whether keys are texts, where more than a few bytes stand after them, which cost time too.
+/// Whether keys are texts, where more than a few bytes stand after them, which cost time too. Yes
+/// means nothing yet; no costs speed alone.
 pub(crate) fn may_be_texts(keys: &[&[u8]], bytes_behind: usize) -> bool {
     if bytes_behind <= FEW_BYTES {
         return true;

@@ -51,7 +51,7 @@ impl<'a> Fields<'a> {
     }
 
     /// The next field, if its tag is this byte. This is faster than `next`, since the tag says what
-    /// follows.
+    /// follows. `Some` means that it is the next field; `None` costs speed alone.
     #[inline(always)]
     pub fn next_tagged(&mut self, tag: u8) -> Option<Result<Field<'a>, WireFault>>
         ensures none { IfNone result (self.new ≡ self.old) }

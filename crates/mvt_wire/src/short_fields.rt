@@ -7,8 +7,8 @@ use crate::field::{Field, Payload, next_field};
 use crate::spelling::field_len;
 use crate::varint::varint_len;
 
-/// The bytes of the field that begins at an offset, and the offset after it. `None` if that is no
-/// field of bytes with this number, or not in its shortest spelling.
+/// The bytes of the field that begins at an offset, and the offset after it. `Some` means that it
+/// is a field of bytes with this number in its shortest spelling; `None` costs speed alone.
 #[inline(always)]
 pub fn short_bytes_at(source: &[u8], at: usize, number: u32) -> Option<(&[u8], usize)>
     requires { at ≤ length source.now }
@@ -30,8 +30,8 @@ pub fn short_bytes_at(source: &[u8], at: usize, number: u32) -> Option<(&[u8], u
     }
 }
 
-/// The number of the field that begins at an offset, and the offset after it. `None` if that is no
-/// varint field with this field number, or not in its shortest spelling.
+/// The number of the field that begins at an offset, and the offset after it. `Some` means that it
+/// is a varint field with this field number in its shortest spelling; `None` costs speed alone.
 #[inline(always)]
 pub fn short_number_at(source: &[u8], at: usize, number: u32) -> Option<(u64, usize)>
     requires { at ≤ length source.now }
@@ -53,8 +53,8 @@ pub fn short_number_at(source: &[u8], at: usize, number: u32) -> Option<(u64, us
     }
 }
 
-/// The field that begins at an offset, and the offset after it. `None` if there is none, or if
-/// it isn't in its shortest spelling.
+/// The field that begins at an offset, and the offset after it. `Some` means that it is in its
+/// shortest spelling; `None` costs speed alone.
 #[inline(always)]
 pub fn short_field_at(source: &[u8], at: usize) -> Option<(Field<'_>, usize)>
     requires { at ≤ length source.now }
