@@ -354,7 +354,7 @@ pub struct LayerEntries {
 impl LayerEntries {
     /// No keys and no values, without memory.
     pub fn new(alloc: Global) -> Self
-        ensures uses { HasUses result [] [] }
+        ensures uses { HasNoneAdded result }
         ensures keys { used_of result.keys ≡ [] }
         ensures values { used_of result.values ≡ [] }
     {
