@@ -97,7 +97,7 @@ impl<T: Entry> UsedEntries<T> {
         }
     }
 
-    /// Whether no entry was added and none is used.
+    /// Whether no entry was added and none is used. Yes means this; no costs speed alone.
     fn is_new(&self) -> bool
         ensures { IsTrue result → (self.now.places.items ≡ []) × (self.now.distinct ≡ []) }
     {
