@@ -20,7 +20,7 @@ use Rattle.mvt_tasks.specs.declared.reply.Reply.{Reply}
 use Rattle.mvt_tasks.specs.declared.tally.Tally.{Tally}
 use Rattle.mvt_tasks.specs.declared.tally.Verdict.{Verdict}
 use Rattle.mvt_tasks.specs.declared.tally.Verdict.TheVariants.{Accepted, Found, Refused, Unread}
-use Rattle.mvt_tasks.specs.Visits.{AddsAll, IsNext, OneAtATime}
+use Rattle.mvt_tasks.specs.Visits.{AddsAll, IsNext, IsReadAtMost, OneAtATime}
 use Rattle.mvt_tasks.specs.Checks.{AreChecked, Checked, EndsEarly, IsLater, IsFileReply, ReportsFiles, ReportsFile, RunState, TakesUntil, Prints, count_of, is_accepted, is_found, is_refused, is_unread, tally_of, printed_of, verdict_of, visit_of, written_of}
 
 -- ---- the error stream
@@ -303,6 +303,11 @@ cut_last Says holds names a b tally w failure said takes = record {
       (takes_on a.output.taken b.output.taken w.taken (flat_map written_of said.files) [] failure said.written takes);
   printed = said.printed;
 }
+
+pub read_is_next : (name : List ℕ) (next : List Visit) → IsReadAtMost name next → IsNext (name ∷ []) next
+read_is_next name [] is = tt
+read_is_next name (v ∷ []) is = ap (λ (w : Visit). w.name) is
+read_is_next name (v ∷ w ∷ vs) is = absurd is
 
 next_more : (rest behind : List (List ℕ)) (next : List Visit) → IsNext rest next → IsNext (rest ++ behind) next
 next_more rest behind [] is = tt

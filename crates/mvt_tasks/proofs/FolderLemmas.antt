@@ -4,7 +4,7 @@ use Rattle.std.specs.declared.io.ErrorKind.{ErrorKind}
 use Rattle.std.specs.declared.io.ErrorKind.TheVariants.{OutOfMemory}
 use Rattle.mvt_io.specs.Devices.{SourceState}
 use Rattle.mvt_tasks.specs.declared.memory.MemoryFile.{MemoryFile}
-use Rattle.mvt_tasks.specs.Folders.{bytes_of, file_named, held_in}
+use Rattle.mvt_tasks.specs.Folders.{bytes_of, file_named, held_in, kind_missing, missing_in}
 
 skips : {A : Type 0} (b : Bool) (x : A) (found : Option A) (y : A) (o : Option A) → cond b (Some x) o ≡ None → (o ≡ None → found ≡ Some y)
     → cond b (Some x) found ≡ Some y
@@ -49,6 +49,11 @@ pub held_read : (r : Result SourceState ErrorKind) (held bytes : Option (List �
     → IfOk r (λ (reader : SourceState). bytes ≡ Some reader.left) → IfOk r (λ (reader : SourceState). held ≡ Some reader.left)
 held_read (Ok reader) held bytes same is = same ∙ is
 held_read (Err kind) held bytes same is = tt
+
+pub kind_read : {A : Type 0} (r : Result A ErrorKind) (is was : Option ErrorKind) → is ≡ was
+    → IfErr r (λ kind. kind ≢ OutOfMemory → was ≡ Some kind) → IfErr r (λ kind. kind ≢ OutOfMemory → is ≡ Some kind)
+kind_read (Ok x) is was same told = tt
+kind_read (Err kind) is was same told = λ other. same ∙ told other
 
 pub missing_read : (r : Result SourceState ErrorKind) (held bytes : Option (List ℕ)) → held ≡ bytes
     → IfErr r (λ kind. kind ≢ OutOfMemory → bytes ≡ None) → IfErr r (λ kind. kind ≢ OutOfMemory → held ≡ None)

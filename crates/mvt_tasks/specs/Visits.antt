@@ -1,5 +1,5 @@
 -- The files that a folder was asked for, and how many are open.
-use Rattle.std.specs.Prelude.{◌≡◌, ◌≢◌, ℕ, ◌+◌, ◌-◌, ◌≤◌, max, List, [], ◌∷◌, ◌++◌, Bool, false, Option, Some, None, ⊤}
+use Rattle.std.specs.Prelude.{◌≡◌, ◌≢◌, ℕ, ◌+◌, ◌-◌, ◌≤◌, max, List, [], ◌∷◌, ◌++◌, Bool, true, false, Option, Some, None, ⊤}
 use Rattle.std.specs.declared.io.ErrorKind.{ErrorKind}
 use Rattle.std.specs.declared.io.ErrorKind.TheVariants.{OutOfMemory}
 use Rattle.mvt_io.specs.Counts.{counted}
@@ -28,6 +28,12 @@ IsNext names [] = ⊤
 IsNext [] (v ∷ vs) = ⊥
 IsNext (name ∷ names) (v ∷ []) = v.name ≡ name
 IsNext (name ∷ names) (v ∷ w ∷ vs) = ⊥
+
+-- at most one visit more, to the file of this name, all of whose bytes were read
+abbrev pub IsReadAtMost : List ℕ → List Visit → Type 0
+IsReadAtMost name [] = ⊤
+IsReadAtMost name (v ∷ []) = v ≡ visit name true
+IsReadAtMost name (v ∷ w ∷ vs) = ⊥
 
 -- one file more is open, or one less
 abbrev pub one_more : OpenFiles → OpenFiles

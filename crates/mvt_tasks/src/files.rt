@@ -8,7 +8,7 @@ ghost use Rattle.mvt_tasks.specs.declared.folder.Visit.{Visit as AVisit};
 ghost use Rattle.mvt_tasks.specs.Checks.{Checked, FlushesAtMost, EndsEarly, IsFileReply, ReportsFiles, ReportsFile, ChecksFiles, SaysOf, TakesUntil, TellsFiles, Prints, line_printed, marked_text, run_state, status_after, summary, text_of, printed_of, verdict_of, visit_of, written_of};
 ghost use Rattle.mvt_tasks.specs.Failures.{FailsReading, FailsWriting};
 ghost use Rattle.mvt_tasks.specs.Output.{IsGiven};
-ghost use Rattle.mvt_tasks.specs.Visits.{Adds, AddsAll, IsNext, OneAtATime};
+ghost use Rattle.mvt_tasks.specs.Visits.{Adds, AddsAll, IsReadAtMost, OneAtATime};
 
 use crate::checking::check;
 use crate::explaining::explain;
@@ -167,7 +167,7 @@ fn tell_one<F: Folder, W: Sink, E: Sink>(
     Ok(verdict)
 }
 
-/// What is answered for a file; nothing if it couldn't be opened or read.
+/// What is answered for a file; nothing if it couldn't be opened or read. Such a file ends no run.
 fn tell_file<F: Folder>(
     alloc: Global,
     task: &Task,
@@ -177,7 +177,7 @@ fn tell_file<F: Folder>(
     ensures said { IfOk result (IsFileReply (SaysOf LIMIT task.now) (F.holds folder.old name.now)) }
     ensures visited { IfOk result (λ reply. Adds (F.visits folder.old) (F.visits folder.new)
         (visit_of name.now reply)) }
-    ensures asked { OnErr result ((next : List AVisit) × IsNext (name.now ∷ []) next
+    ensures asked { OnErr result ((next : List AVisit) × IsReadAtMost name.now next
         × AddsAll (F.visits folder.old) (F.visits folder.new) next) }
     ensures one { OneAtATime (F.open_files folder.old) (F.open_files folder.new) }
     ensures failed { IfErr result (λ failure. failure ≡ Failure.Memory) }

@@ -1,5 +1,6 @@
 //! Files by their names.
-ghost use Rattle.std.specs.Prelude.{◌≡◌, ◌<◌, ◌==◌, ℕ, List, Option, Some, IfOk, IfErr, IfSome, OnOk, OnErr};
+ghost use Rattle.std.specs.Prelude.{◌≡◌, ◌≢◌, ◌<◌, ◌==◌, ℕ, List, Option, Some, IfOk, IfErr, IfSome, OnOk, OnErr};
+ghost use Rattle.std.specs.declared.io.ErrorKind.{ErrorKind as AnErrorKind};
 ghost use Rattle.mvt_tasks.specs.declared.folder.OpenFiles.{OpenFiles as AnOpenFiles};
 ghost use Rattle.mvt_tasks.specs.declared.folder.Visit.{Visit as AVisit};
 ghost use Rattle.mvt_tasks.specs.Visits.{Adds, IsUnopened, one_less, one_more, visit};
@@ -58,6 +59,9 @@ pub trait Folder {
 
     ghost open_files: { Self → AnOpenFiles };
 
+    // Why the file of a name can't be opened, where that is known.
+    ghost missing: { Self → List ℕ → Option AnErrorKind };
+
     /// Opens a file. A file that can't be opened has been visited, unless memory was wanting;
     /// another one is when it is closed.
     fn open(&mut self, name: &str) -> Result<Self::Reader, ErrorKind>
@@ -69,6 +73,8 @@ pub trait Folder {
         ensures unopened { IfErr result (λ kind. IsUnopened kind name.now (visits self.old)
             (visits self.new)) }
         ensures unchanged { OnErr result (open_files self.new ≡ open_files self.old) }
+        ensures kind { IfErr result (λ kind. kind ≢ ErrorKind.OutOfMemory
+            → IfSome (missing self.old name.now) (λ why. kind ≡ why)) }
         ensures same { holds self.new ≡ holds self.old };
 
     /// Closes a file of this name. It was read if none of its reads failed.
@@ -109,6 +115,8 @@ impl<R: Files> Folder for Disk<'_, R> {
     ghost visits = { λ _. None };
 
     ghost open_files = { λ disk. disk.opens };
+
+    ghost missing = { λ _ _. None };
 
     fn open(&mut self, name: &str) -> Result<Self::Reader, ErrorKind> {
         match fs::open(self.files, name) {

@@ -1,6 +1,6 @@
 //! Files in memory, for tests.
 ghost use Rattle.std.specs.Prelude.{◌≡◌, ◌≢◌, ◌++◌, ◌∷◌, ◌==◌, [], false, None, Some, IfOk, IfSome, IfErr, OnOk, OnErr};
-ghost use Rattle.mvt_tasks.specs.Folders.{bytes_of, fails_in, held_in};
+ghost use Rattle.mvt_tasks.specs.Folders.{bytes_of, fails_in, held_in, kind_missing, missing_in};
 ghost use Rattle.mvt_tasks.specs.Visits.{Adds, IsUnopened, one_less, one_more, visit};
 
 use crate::folder::{Folder, OpenFiles, Visit};
@@ -83,6 +83,8 @@ fn opened(alloc: Global, files: &[MemoryFile], name: &str) -> Result<MemorySourc
     ensures held { IfOk result (λ reader. held_in files.now name.now ≡ Some reader.left) }
     ensures missing { IfErr result (λ kind. kind ≢ ErrorKind.OutOfMemory
         → held_in files.now name.now ≡ None) }
+    ensures kind { IfErr result (λ kind. kind ≢ ErrorKind.OutOfMemory
+        → missing_in files.now name.now ≡ Some kind) }
     ensures fresh { IfOk result (λ reader. reader.faults.count ≡ 0) }
     ensures fails { IfOk result (λ reader. fails_in files.now name.now ≡ Some reader.fails_from) }
 {
@@ -98,6 +100,8 @@ fn reader_of(alloc: Global, file: &MemoryFile) -> Result<MemorySource, ErrorKind
     ensures held { IfOk result (λ reader. bytes_of (Some file.now) ≡ Some reader.left) }
     ensures missing { IfErr result (λ kind. kind ≢ ErrorKind.OutOfMemory
         → bytes_of (Some file.now) ≡ None) }
+    ensures kind { IfErr result (λ kind. kind ≢ ErrorKind.OutOfMemory
+        → kind_missing (Some file.now) ≡ Some kind) }
     ensures fresh { IfOk result (λ reader. reader.faults.count ≡ 0) }
     ensures fails { IfOk result (λ reader. file.now.fails_from ≡ reader.fails_from) }
 {
@@ -117,11 +121,14 @@ impl Folder for MemoryFolder {
 
     ghost open_files = { λ f. f.open_files };
 
+    ghost missing = { λ f name. missing_in f.files name };
+
     /// Makes room for the visit before anything else.
     fn open(&mut self, name: &str) -> Result<Self::Reader, ErrorKind>
         ensures held { IfOk result (λ reader. held_in self.old.files name.now ≡ Some reader.left) }
         ensures missing { IfErr result (λ kind. kind ≢ ErrorKind.OutOfMemory
-            → held_in self.old.files name.now ≡ None) }
+            → (held_in self.old.files name.now ≡ None)
+            × (missing_in self.old.files name.now ≡ Some kind)) }
         ensures fails { IfOk result (λ reader. fails_in self.old.files name.now
             ≡ Some reader.fails_from) }
 
@@ -134,6 +141,8 @@ impl Folder for MemoryFolder {
         ensures unopened { IfErr result (λ kind. IsUnopened kind name.now (Some self.old.visits)
             (Some self.new.visits)) }
         ensures unchanged { OnErr result (self.new.open_files ≡ self.old.open_files) }
+        ensures kind { IfErr result (λ kind. kind ≢ ErrorKind.OutOfMemory
+            → IfSome (missing_in self.old.files name.now) (λ why. kind ≡ why)) }
         ensures same { held_in self.new.files ≡ held_in self.old.files }
     {
         let name = Text::from_str(self.alloc, name).map_err(no_memory)?;

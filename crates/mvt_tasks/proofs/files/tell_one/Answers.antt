@@ -2,7 +2,7 @@ use Rattle.std.proofs.Common.{rules, ◌≡◌, ◌∷◌, [], IfErr, refl, subs
 use Rattle.std.specs.Io.KnownBytes.{Appends}
 use Rattle.mvt_tasks.specs.declared.failure.Failure.TheVariants.{Memory}
 use Rattle.mvt_tasks.specs.Checks.{TakesUntil, Prints, visit_of, written_of, printed_of}
-use Rattle.mvt_tasks.proofs.CheckLemmas.{cut_first_of, cut_within_of}
+use Rattle.mvt_tasks.proofs.CheckLemmas.{cut_first_of, cut_within_of, read_is_next}
 use Rattle.mvt_tasks.proofs.files.tell_one.Goals as goal
 
 pub returns-clause-said : goal.returns-clause-said
@@ -21,7 +21,7 @@ returns-clause-said g c = record {
 pub returns-in_err-reply-clause-cut : goal.returns-in_err-reply-clause-cut
 returns-in_err-reply-clause-cut g c =
     let asked = c.in_err-reply.ensures.asked in
-    cut_first_of c.from_residual.result _ _ _ _ _ asked.0 asked.1 asked.2
+    cut_first_of c.from_residual.result _ _ _ _ _ asked.0 (read_is_next c.args.name.now asked.0 asked.1) asked.2
     (let h : IfErr c.from_residual.result (λ failure. failure ≡ Memory) = search rules in h)
 
 pub returns-in_err-written-clause-cut : goal.returns-in_err-written-clause-cut
