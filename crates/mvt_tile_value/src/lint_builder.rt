@@ -1,5 +1,5 @@
 //! What is found of items that viewers stumble over, one item after the other.
-ghost use Rattle.std.specs.Prelude.{◌≡◌, ◌+◌, ◌^◌, ◌<◌, ◌≤◌, List, [], ◌∷◌, ◌++◌, length, None, IfOk, IfErr, OnOk};
+ghost use Rattle.std.specs.Prelude.{◌≡◌, ◌+◌, ◌^◌, ◌<◌, ◌≤◌, List, [], ◌∷◌, ◌++◌, length, None, IfOk, IfErr, OnOk, OnErr};
 ghost use Rattle.std.specs.Option.{option_copied, option_to_list};
 ghost use Rattle.mvt_base.specs.Reports.{Reports};
 ghost use Rattle.mvt_attrs.specs.declared.value.Value.{Value};
@@ -9,6 +9,7 @@ ghost use Rattle.mvt_message.specs.declared.item.Layer.{Layer as ALayer};
 ghost use Rattle.mvt_message.specs.ItemRules.{item_fault};
 ghost use Rattle.mvt_message.specs.Items.{IsItem, names_in};
 ghost use Rattle.mvt_message.specs.ValidItems.{ValidItem};
+ghost use Rattle.mvt_tile_value.specs.declared.finding.Finding.{Finding as AFinding};
 ghost use Rattle.mvt_tile_value.specs.declared.tile.Tile.{Tile};
 ghost use Rattle.mvt_tile_value.specs.Lint.{findings_of, layer_findings};
 ghost use Rattle.mvt_tile_value.specs.Linting.{AreLinted, AreLintedItems};
@@ -41,7 +42,8 @@ impl LintBuilder {
     ///
     /// # Errors
     ///
-    /// As [`read_item`](mvt_message::read_item).
+    /// As [`read_item`](mvt_message::read_item). What was found before stays; of the layer that
+    /// brought the error there may be some findings too.
     pub fn add<'b>(
         &mut self,
         alloc: Global,
@@ -59,6 +61,8 @@ impl LintBuilder {
             × AreLintedItems self.new (items ++ item ∷ [])) }
         ensures fault { IfErr result (λ error. Reports (fault_of error)
             (item_fault payload.now payload_at tag_at)) }
+        ensures left { OnErr result ((more : List AFinding)
+            × (self.new.findings.items ≡ self.old.findings.items ++ more)) }
     {
         let extent = extent_in(payload);
         let mut linted = LayerFindings::new(alloc, index, extent);
@@ -79,10 +83,12 @@ impl LintBuilder {
         extent: u32,
         linted: &LayerFindings,
     ) -> Result<(), AllocError>
-        ensures { (values : List Value) (layer : ALayer) → layer.extent ≡ extent
+        ensures added { (values : List Value) (layer : ALayer) → layer.extent ≡ extent
             → AreLinted index extent values linted.now layer.features
             → OnOk result (self.new.findings.items
             ≡ self.old.findings.items ++ layer_findings index layer) }
+        ensures left { OnErr result ((more : List AFinding)
+            × (self.new.findings.items ≡ self.old.findings.items ++ more)) }
     {
         push_if(&mut self.findings, extent == 0, Finding::ZeroExtent(index))?;
         self.findings.extend_from_slice(&linted.findings)?;

@@ -1,5 +1,5 @@
 //! What is found of a tile that viewers stumble over.
-ghost use Rattle.std.specs.Prelude.{◌≡◌, ◌*◌, ◌+◌, ◌++◌, find, IfOk, OnOk};
+ghost use Rattle.std.specs.Prelude.{◌≡◌, ◌*◌, ◌+◌, ◌++◌, find, IfOk, OnOk, OnErr};
 ghost use Rattle.mvt_geometry.specs.Shape.{joined, rings_of};
 ghost use Rattle.mvt_tile_value.specs.Notes.{numbered, note_if};
 ghost use Rattle.mvt_tile_value.specs.Lint.{attribute_findings, feature_findings, findings_of, geometry_findings, is_far as the_is_far, is_far_point as the_is_far_point, is_large as the_is_large, is_large_id as the_is_large_id, is_large_value as the_is_large_value, item_findings, layer_findings, positions_of, unknown_finding as the_unknown_finding, widest};
@@ -137,7 +137,8 @@ pub(crate) fn push_if(
     test: bool,
     finding: Finding,
 ) -> Result<(), AllocError>
-    ensures { OnOk result (findings.new.items ≡ findings.old.items ++ note_if test finding) }
+    ensures ok { OnOk result (findings.new.items ≡ findings.old.items ++ note_if test finding) }
+    ensures left { OnErr result (findings.new.items ≡ findings.old.items) }
 {
     if test {
         findings.push(finding)?;

@@ -5,6 +5,7 @@ use Rattle.std.proofs.lemmas.Grind.{common_steps, flat_map-append}
 use Rattle.std.proofs.lemmas.List.{take-append-drop, take-take, drop-take, drop_all, at_drop_more}
 use Rattle.std.specs.Char.{digit_char}
 use Rattle.std.specs.List.{list_all}
+use Rattle.mvt_base.specs.Related.{Extends}
 use Rattle.json.specs.Print.{escape, escape_byte, escape_letter}
 use Rattle.mvt_view.specs.JsonForms.{is_clean}
 use Rattle.mvt_view.specs.Runs.{RunsTo}
@@ -54,6 +55,17 @@ runs_byte text from end so_far within clean =
     let alone : list_all is_clean (take 1 (drop end text)) ≡ true =
     at_drop_more (λ xs. list_all is_clean (take 1 xs)) text end 0 within ∙ ap (λ b. b && true) clean in
     runs_block text from end 1 so_far (omega (arith, within)) alone
+
+-- a text that grows
+
+pub extends_none : (a : List ℕ) → Extends a a
+extends_none a = ([], sym (append-nil a))
+
+pub extends_by : (a b c more : List ℕ) → Extends a b → c ≡ b ++ more → Extends a c
+extends_by a b c more h is = (h.0 ++ more, is ∙ ap (λ l. l ++ more) h.1 ∙ append_assoc a h.0 more)
+
+pub extends_on : (a b c : List ℕ) → Extends a b → Extends b c → Extends a c
+extends_on a b c h k = extends_by a b c k.0 h k.1
 
 -- what is appended, and what is still to come
 abbrev pub HasCome : List ℕ → List ℕ → List ℕ → ℕ → Type 0

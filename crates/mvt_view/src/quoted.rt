@@ -1,5 +1,5 @@
 //! Texts as strings of JSON.
-ghost use Rattle.std.specs.Prelude.{◌≡◌, ◌<◌, ◌≤◌, ◌++◌, OnOk, false, get_or, length, string_bytes};
+ghost use Rattle.std.specs.Prelude.{◌≡◌, ◌<◌, ◌≤◌, ◌++◌, ℕ, List, OnOk, OnErr, false, get_or, length, string_bytes};
 ghost use Rattle.std.specs.Char.{digit_char};
 ghost use Rattle.std.specs.List.{list_all};
 ghost use Rattle.json.specs.Print.{escape, escape_byte, escape_letter, quoted};
@@ -14,9 +14,11 @@ const SHORT: usize = 256;
 /// How many bytes are looked at together where a longer run of clean ones ends.
 const BLOCK: usize = 32;
 
-/// Appends a text as a string of JSON.
+/// Appends a text as a string of JSON. After an error the text is as it was, or longer.
 pub fn push_quoted(text: &mut String, plain: &str) -> Result<(), AllocError>
-    ensures { OnOk result (string_bytes text.new ≡ string_bytes text.old ++ quoted plain.now) }
+    ensures ok { OnOk result (string_bytes text.new ≡ string_bytes text.old ++ quoted plain.now) }
+    ensures left { OnErr result ((more : List ℕ)
+        × (string_bytes text.new ≡ string_bytes text.old ++ more)) }
 {
     text.push_str("\"")?;
     push_inside(text, plain)?;
@@ -26,7 +28,9 @@ pub fn push_quoted(text: &mut String, plain: &str) -> Result<(), AllocError>
 /// Appends a text as it stands between the quotation marks. A short one of clean bytes alone is
 /// copied as it is.
 fn push_inside(text: &mut String, plain: &str) -> Result<(), AllocError>
-    ensures { OnOk result (string_bytes text.new ≡ string_bytes text.old ++ escape plain.now) }
+    ensures ok { OnOk result (string_bytes text.new ≡ string_bytes text.old ++ escape plain.now) }
+    ensures left { OnErr result ((more : List ℕ)
+        × (string_bytes text.new ≡ string_bytes text.old ++ more)) }
 {
     if plain.len() < SHORT && are_clean(plain.as_bytes()) {
         text.push_str(plain)
@@ -37,7 +41,9 @@ fn push_inside(text: &mut String, plain: &str) -> Result<(), AllocError>
 
 /// Appends the runs of clean bytes of a text, and the escapes of those between them.
 fn push_runs(text: &mut String, plain: &str) -> Result<(), AllocError>
-    ensures { OnOk result (string_bytes text.new ≡ string_bytes text.old ++ escape plain.now) }
+    ensures ok { OnOk result (string_bytes text.new ≡ string_bytes text.old ++ escape plain.now) }
+    ensures left { OnErr result ((more : List ℕ)
+        × (string_bytes text.new ≡ string_bytes text.old ++ more)) }
 {
     let bytes = plain.as_bytes();
     let mut at = 0;
@@ -81,7 +87,9 @@ fn clean_blocks(bytes: &[u8], from: usize) -> usize
 #[tactic(auto, unfolding(json::specs::Print::escape_byte))]
 fn push_mark(text: &mut String, mark: u8) -> Result<(), AllocError>
     requires { the_clean mark ≡ false }
-    ensures { OnOk result (string_bytes text.new ≡ string_bytes text.old ++ escape_byte mark) }
+    ensures ok { OnOk result (string_bytes text.new ≡ string_bytes text.old ++ escape_byte mark) }
+    ensures left { OnErr result ((more : List ℕ)
+        × (string_bytes text.new ≡ string_bytes text.old ++ more)) }
 {
     match mark {
         b'"' => text.push_str("\\\""),
@@ -99,7 +107,9 @@ fn push_mark(text: &mut String, mark: u8) -> Result<(), AllocError>
 fn push_control(text: &mut String, control: u8) -> Result<(), AllocError>
     requires low { control < 32 }
     requires letter { escape_letter control ≡ 0 }
-    ensures { OnOk result (string_bytes text.new ≡ string_bytes text.old ++ escape_byte control) }
+    ensures ok { OnOk result (string_bytes text.new ≡ string_bytes text.old ++ escape_byte control) }
+    ensures left { OnErr result ((more : List ℕ)
+        × (string_bytes text.new ≡ string_bytes text.old ++ more)) }
 {
     text.push_str("\\u00")?;
     text.push(hex(control / 16))?;

@@ -11,7 +11,7 @@ loop-number-preserved c = λ keys values attributes large names.
     let within : n < length attributes = omega (arith, c.loop-number-test.true, names.twice) in
     tag_linted c.args.layer c.args.feature n keys values c.args.tags.now attributes c.is_large_at-is_large.result _ _ _ within names
     (λ value here. c.is_large_at-is_large.ensures values value large here)
-    (c.loop-number.invariant keys values attributes large names) c.in_ok-push_if.ensures
+    (c.loop-number.invariant keys values attributes large names) c.in_ok-push_if.ensures.ok
 
 pub returns : goal.returns
 returns c = λ keys values attributes large names.

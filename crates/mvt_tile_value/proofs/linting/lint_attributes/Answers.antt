@@ -10,5 +10,5 @@ loop-number-preserved c =
     let n = c.loop-number.number in
     noted_more (attribute_findings c.args.layer c.args.feature) 0 c.args.attributes.now n c.index-attributes-number.result n _ _ _
     c.loop-number-test.true c.index-attributes-number.is (omega arith) c.loop-number.invariant
-    (c.in_ok-push_if.ensures
+    (c.in_ok-push_if.ensures.ok
     ∙ ap (λ b. c.loop-number.findings.items ++ note_if b (LargeNumber c.args.layer c.args.feature n)) c.is_large_value-is_large.ensures)

@@ -18,7 +18,7 @@ returns c = λ layer extent keys values features f before found is names.
         findings_are = feature_linted old.layer layer extent n features f c.args.id old.geometry.found c.is_large_id-is_large.result
             old.findings.items c.push_found.new.findings.items c.push_if.new.findings.items c.lint_tags.new.findings.items before.layer_is
             before.count_is is c.is_large_id-is_large.ensures before.findings_are found.found_is c.in_ok-push_found.ensures
-            c.in_ok-push_if.ensures tags;
+            c.in_ok-push_if.ensures.ok tags;
       },
       subst (λ k. HasNothing layer extent k c.begin.new.self) count
           (subst (λ e. HasNothing layer e c.in_ok-self.field-0 c.begin.new.self) found.extent_is

@@ -30,7 +30,7 @@ returns-in-Ok-Layer-clause-found c = λ items found count.
     layer_told HasGiven (HasFeatures index extent) c.args.payload.now c.visit_version_2.new.visitor c.in-Ok-Layer.name
     c.in-Ok-Layer.field-0-1
     (λ i. IsItem c.args.payload.now i × ValidItem i) item reported (is, valid) in
-    let own = c.in_ok-add_layer-in-Ok-Layer.ensures (values_in (split c.args.payload.now).fields) layer
+    let own = c.in_ok-add_layer-in-Ok-Layer.ensures.added (values_in (split c.args.payload.now).fields) layer
     (sym (c.extent_in-extent.ensures layer both.0)) has.2.0 in (
       Layer layer,
       both.0,
