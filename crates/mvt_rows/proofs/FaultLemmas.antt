@@ -28,6 +28,7 @@ use Rattle.mvt_rows.specs.declared.rows.LayerRow.{LayerRow}
 use Rattle.mvt_rows.specs.declared.rows.PartRow.{PartRow}
 use Rattle.mvt_rows.specs.declared.rows.PointRow.{PointRow}
 use Rattle.mvt_rows.specs.declared.rows_cause.RowsCause.{RowsCause}
+use Rattle.mvt_rows.specs.declared.rows_cause.RowsFault.{RowsFault}
 use Rattle.mvt_rows.specs.declared.rows_cause.RowsCause.TheVariants.{NameSpan, NameText, KeysSpan, Key, ValuesSpan, Value as ValueCause, FeaturesSpan, HasId, TagsSpan, Kind, Geometry, Drawing, RepeatedName}
 use Rattle.mvt_rows.specs.declared.rows.Span.{Span}
 use Rattle.mvt_rows.specs.declared.rows_error.RowPartError.{RowPartError}
@@ -36,11 +37,11 @@ use Rattle.mvt_rows.specs.declared.rows_error.RowError.{RowError}
 use Rattle.mvt_rows.specs.declared.rows_error.RowError.TheVariants.{Memory, Wrong}
 use Rattle.mvt_rows.specs.declared.writing.layers.LayerParts.{LayerParts}
 use Rattle.mvt_rows.specs.Drawing.{AreDrawnIf, IsUndrawable}
-use Rattle.mvt_rows.specs.RowsFaults.{IsFeatureWrong, IsFeatureWrongIn, IsFirstWrong, IsForeignWrong, IsInsideWrong, IsLayerWrongBy, IsRowWrong, IsUndrawn, IsValidFeatureOf, IsValidItemOf, IsWrongBy, feature_cause, geometry_cause, name_cause, of_tag_cause, or_wrong, parts_cause}
+use Rattle.mvt_rows.specs.RowsFaults.{IsFaultOf, IsFeatureWrong, IsFeatureWrongIn, IsFirstWrong, IsForeignWrong, IsInsideWrong, IsLayerWrongBy, IsRowWrong, IsUndrawn, IsValidFeatureOf, IsValidItemOf, IsWrongBy, feature_cause, geometry_cause, name_cause, of_tag_cause, or_wrong, parts_cause}
 use Rattle.mvt_rows.specs.Tables.{Table}
 use Rattle.mvt_rows.specs.TileRows.{drawn_of, each, geometry_of, id_of, part_of, text_of, utf8_of, value_of, IsFeature, IsLayer}
 use Rattle.mvt_rows.specs.Writing.{AreLayerParts, IsRefused}
-use Rattle.mvt_rows.specs.Written.{IfWrong, NotWritten, at_feature, at_layer, if_any}
+use Rattle.mvt_rows.specs.Written.{IfWrong, IsNoTile, NotWritten, at_feature, at_layer, if_any}
 use Rattle.mvt_rows.proofs.TileLemmas.{some_same}
 use Rattle.mvt_rows.proofs.WritingLemmas.{no_tile, related_at, related_with}
 
@@ -295,3 +296,10 @@ layer_fault t i d items (Wrong f c) are distinct within h = (
     wrong = h;
   },
 )
+
+-- rows with which something is wrong are no tile that can be written
+pub fault_is_no_tile : (t : Table) (fault : RowsFault) → IsFaultOf t fault → IsNoTile t
+fault_is_no_tile t fault h =
+    let here : get_or t.layers fault.layer h.row ≡ h.row = get_or_from_slice_get t.layers fault.layer h.row h.row h.there in
+    no_tile t fault.layer h.row h.before h.valid (slice_get_within t.layers fault.layer h.row h.there)
+    (subst (λ r. IsRefused t r h.before) (sym here) (wrong_refuses t h.row h.before fault.feature fault.cause h.wrong))

@@ -53,6 +53,11 @@ pub fn rows_have_one_fault()
         → IsFaultOf table other → fault ≡ other }
 {}
 
+/// Rows with which something is wrong are no valid tile.
+pub fn rows_with_a_fault_are_no_tile()
+    ensures { (table : Table) (fault : RowsFault) → IsFaultOf table fault → IsNoTile table }
+{}
+
 /// The rows of what a builder was told are the tile that it was told: that is written, and as its
 /// canonical bytes.
 pub fn told_rows_are_tile()
