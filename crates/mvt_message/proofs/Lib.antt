@@ -4,6 +4,7 @@ mod AroundLemmas
 mod CopyingLemmas
 mod SaidLemmas
 mod FormLemmas
+mod FaultPlaceLemmas
 mod OrFaultLemmas
 mod ReadLemmas
 mod ValidLemmas

@@ -1,11 +1,14 @@
 //! Laws about the definitions alone: functions without effect, whose contract is the law.
-ghost use Rattle.std.specs.Prelude.{◌≡◌, ℕ, ◌<◌, ◌≤◌, List, [], ◌∷◌, ◌++◌, length, take, get_or, None, IsUtf8};
+ghost use Rattle.std.specs.Prelude.{◌≡◌, ℕ, ◌<◌, ◌≤◌, List, [], ◌∷◌, ◌++◌, length, take, get_or, slice_get, None, Some, IsUtf8};
 ghost use Rattle.std.specs.List.{AllByRecursion};
 ghost use Rattle.mvt_base.specs.Rules.{AreOrdered, first};
 ghost use Rattle.mvt_attrs.specs.Pools.{key_pool, value_pool};
 ghost use Rattle.mvt_attrs.specs.TagPlaces.{IsIn};
 ghost use Rattle.mvt_feature.specs.declared.feature.Feature.{Feature};
+ghost use Rattle.mvt_feature.specs.Faults.{MessageFault};
+ghost use Rattle.mvt_feature.specs.Forms.{HasForm, message};
 ghost use Rattle.mvt_feature.specs.Ranges.{AreBytes};
+ghost use Rattle.mvt_feature.specs.Selection.{HaveForm, only};
 ghost use Rattle.mvt_feature.specs.Valid.{ValidFeature, ValidValue};
 ghost use Rattle.mvt_message.specs.declared.numbers.layer.TheConstants.{NAME, FEATURES, KEYS, VALUES, EXTENT, VERSION};
 ghost use Rattle.mvt_message.specs.declared.item.Item.{Item};
@@ -13,6 +16,8 @@ ghost use Rattle.mvt_message.specs.ItemRules.{item_rules, item_fault, payload_na
 ghost use Rattle.mvt_message.specs.Items.{IsItem, names_in};
 ghost use Rattle.mvt_message.specs.CanonicalItems.{canonical_item, keys_of, values_of};
 ghost use Rattle.mvt_message.specs.ValidItems.{ValidItem, WasValidItem};
+ghost use Rattle.mvt_wire.specs.Field.{Entry};
+ghost use Rattle.mvt_wire.specs.Split.{split};
 
 use mvt_base::LIMIT;
 
@@ -37,6 +42,15 @@ pub fn item_in_order()
         → item_fault b payload_at tag_at ≡ first (item_rules b payload_at tag_at) }
     ensures ordered { (b : List ℕ) (payload_at tag_at : ℕ)
         → AreOrdered (item_rules b payload_at tag_at) }
+{}
+
+/// The feature in which the first fault stands is there: each field of features holds bytes, and
+/// there is one of its index.
+pub fn feature_of_a_fault()
+    ensures { (b : List ℕ) (payload_at tag_at : ℕ) (fault : MessageFault) (j : ℕ)
+        → item_fault b payload_at tag_at ≡ Some fault → fault.feature ≡ Some j
+        → HaveForm FEATURES (HasForm message) (split b).fields × (x : Entry)
+        × (slice_get (only FEATURES (split b).fields) j ≡ Some x) }
 {}
 
 /// A payload is one item at most.

@@ -3,4 +3,5 @@ mod MessageLemmas
 mod PickLemmas
 pub mod PlacesLaws
 mod SpanLemmas
+mod ThereLemmas
 mod WithinLemmas

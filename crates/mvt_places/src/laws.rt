@@ -1,6 +1,7 @@
 //! Laws about the definitions alone: functions without effect, whose contract is the law.
 ghost use Rattle.std.specs.Prelude.{◌≡◌, ℕ, List, Some, length};
-ghost use Rattle.mvt_places.specs.Places.{place_at};
+ghost use Rattle.mvt_places.specs.Messages.{Message as AMessage};
+ghost use Rattle.mvt_places.specs.Places.{feature_of, layer_of, place_at};
 ghost use Rattle.mvt_places.specs.Spans.{EndsBelow};
 ghost use Rattle.mvt_tile.specs.TileRules.{fault_within};
 ghost use Rattle.mvt_tile.specs.declared.fault.Fault.{Fault as AFault};
@@ -13,4 +14,14 @@ pub fn place_lies()
         → EndsBelow (length input) (place_at LIMIT input fault) }
     ensures any { (limit : ℕ) (input : List ℕ) (fault : AFault)
         → EndsBelow (length input) (place_at limit input fault) }
+{}
+
+/// The layer that the first fault of any bytes names is there, and so is the feature.
+pub fn first_fault_is_there()
+    ensures layer { (limit : ℕ) (input : List ℕ) (fault : AFault) (n : ℕ)
+        → fault_within limit input ≡ Some fault → fault.layer ≡ Some n
+        → (m : AMessage) × (layer_of limit input fault ≡ Some m) }
+    ensures feature { (limit : ℕ) (input : List ℕ) (fault : AFault) (n j : ℕ)
+        → fault_within limit input ≡ Some fault → fault.layer ≡ Some n → fault.feature ≡ Some j
+        → (m : AMessage) × (feature_of limit input fault ≡ Some m) }
 {}

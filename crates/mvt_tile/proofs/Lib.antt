@@ -3,6 +3,7 @@ mod NameLemmas
 mod LayerLemmas
 mod ItemLemmas
 mod TileLemmas
+mod FaultPlaceLemmas
 mod StreamLemmas
 mod VisitedLemmas
 mod ShiftLemmas

@@ -3,8 +3,11 @@ pub use Rattle.mvt_tile_value.proofs.ModelLaws.{canonical_reads as one_tile_read
 pub use Rattle.mvt_tile.proofs.OneNameLemmas.{first_named as one_of_a_name_one, none_named as one_of_a_name_nothing}
 pub use Rattle.mvt_tile.proofs.NameLemmas.{distinct_none as names_apart_nothing, distinct_more as names_apart_more, distinct_before as names_apart_before}
 pub use Rattle.mvt_tile.proofs.TileLemmas.{tile_ordered as fault_is_least_ordered}
+use Rattle.mvt_tile.specs.FaultPlaces.{StandsIn}
+use Rattle.mvt_tile.proofs.FaultPlaceLemmas.{layer_there}
+use Rattle.mvt_wire.specs.Split.{split}
 use Rattle.std.proofs.Common.{subst, sym}
-use Rattle.std.specs.Prelude.{List, None, Some, false, length, ℕ, ◌++◌, ◌<◌, ◌↔◌, ◌≡◌, ◌≤◌}
+use Rattle.std.specs.Prelude.{List, None, Some, false, length, take, ℕ, ◌++◌, ◌<◌, ◌↔◌, ◌≡◌, ◌≤◌}
 use Rattle.mvt_base.proofs.ListLemmas.{all_weaker}
 use Rattle.mvt_base.specs.declared.TheConstants.{LIMIT}
 use Rattle.mvt_base.specs.Rules.{IsLeast}
@@ -32,6 +35,10 @@ fault_stays = it_stays LIMIT
 pub fault_past_limit : (s : List ℕ) → LIMIT < length s
     → (f : Fault) × (fault_within LIMIT s ≡ Some f) × (is_open f ≡ false)
 fault_past_limit = past_limit LIMIT
+
+pub layer_of_a_fault : (limit : ℕ) (input : List ℕ) (fault : Fault) (n : ℕ) → fault_within limit input ≡ Some fault → fault.layer ≡ Some n
+    → StandsIn (split (take limit input)).fields n fault
+layer_of_a_fault limit input fault n is at = layer_there fault n at limit input is
 
 pub tile_or_fault_there : (b : List ℕ) → fault_within LIMIT b ≡ None → (tile : Tile) × IsTile LIMIT b tile
 tile_or_fault_there = tile_there LIMIT

@@ -1,5 +1,6 @@
 pub mod Faults
 pub mod TileRules
+pub mod FaultPlaces
 pub mod Inner
 pub mod Streams
 pub mod Visiting

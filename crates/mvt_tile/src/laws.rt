@@ -1,5 +1,5 @@
 //! Laws about the definitions alone: functions without effect, whose contract is the law.
-ghost use Rattle.std.specs.Prelude.{◌≡◌, ◌↔◌, ℕ, ◌<◌, ◌≤◌, List, [], ◌∷◌, ◌++◌, length, None, Some, false};
+ghost use Rattle.std.specs.Prelude.{◌≡◌, ◌↔◌, ℕ, ◌<◌, ◌≤◌, List, [], ◌∷◌, ◌++◌, length, take, None, Some, false};
 ghost use Rattle.std.specs.List.{flat_map};
 ghost use Rattle.mvt_base.specs.Rules.{AreOrdered, IsLeast, first};
 ghost use Rattle.mvt_message.specs.declared.item.Item.{Item};
@@ -7,11 +7,13 @@ ghost use Rattle.mvt_message.specs.Items.{names_in};
 ghost use Rattle.mvt_tile.specs.declared.fault.Fault.{Fault};
 ghost use Rattle.mvt_tile_value.specs.declared.tile.Tile.{Tile};
 ghost use Rattle.mvt_tile_value.specs.CanonicalTiles.{canonical};
+ghost use Rattle.mvt_tile.specs.FaultPlaces.{StandsIn};
 ghost use Rattle.mvt_tile.specs.Faults.{is_open};
 ghost use Rattle.mvt_tile.specs.Finding.{IsFirst, first_in, named_in};
 ghost use Rattle.mvt_tile.specs.TileRules.{tile_rules, fault_within, repeats};
 ghost use Rattle.mvt_tile_value.specs.Tiles.{HasDistinctNames, IsTile};
 ghost use Rattle.mvt_tile_value.specs.ValidTiles.{Valid, WasValid};
+ghost use Rattle.mvt_wire.specs.Split.{split};
 
 use mvt_base::LIMIT;
 
@@ -34,6 +36,14 @@ pub fn fault_stays()
 pub fn fault_past_limit()
     ensures { (s : List ℕ) → LIMIT < length s
         → (f : Fault) × (fault_within LIMIT s ≡ Some f) × (is_open f ≡ false) }
+{}
+
+/// The layer in which the first fault stands is there, and if the fault stands in a feature, it is
+/// the first fault of that layer's payload.
+pub fn layer_of_a_fault()
+    ensures { (limit : ℕ) (input : List ℕ) (fault : Fault) (n : ℕ)
+        → fault_within limit input ≡ Some fault → fault.layer ≡ Some n
+        → StandsIn (split (take limit input)).fields n fault }
 {}
 
 /// Bytes are a tile exactly if they have no fault, and then they are one tile.

@@ -1,6 +1,7 @@
 //! What is found of items that viewers stumble over, one item after the other.
 ghost use Rattle.std.specs.Prelude.{◌≡◌, ◌+◌, ◌^◌, ◌<◌, ◌≤◌, List, [], ◌∷◌, ◌++◌, length, None, IfOk, IfErr, OnOk, OnErr};
 ghost use Rattle.std.specs.Option.{option_copied, option_to_list};
+ghost use Rattle.mvt_base.specs.Related.{Extends};
 ghost use Rattle.mvt_base.specs.Reports.{Reports};
 ghost use Rattle.mvt_attrs.specs.declared.value.Value.{Value};
 ghost use Rattle.mvt_feature.specs.Faults.{fault_of};
@@ -9,7 +10,6 @@ ghost use Rattle.mvt_message.specs.declared.item.Layer.{Layer as ALayer};
 ghost use Rattle.mvt_message.specs.ItemRules.{item_fault};
 ghost use Rattle.mvt_message.specs.Items.{IsItem, names_in};
 ghost use Rattle.mvt_message.specs.ValidItems.{ValidItem};
-ghost use Rattle.mvt_tile_value.specs.declared.finding.Finding.{Finding as AFinding};
 ghost use Rattle.mvt_tile_value.specs.declared.tile.Tile.{Tile};
 ghost use Rattle.mvt_tile_value.specs.Lint.{findings_of, layer_findings};
 ghost use Rattle.mvt_tile_value.specs.Linting.{AreLinted, AreLintedItems};
@@ -61,8 +61,7 @@ impl LintBuilder {
             × AreLintedItems self.new (items ++ item ∷ [])) }
         ensures fault { IfErr result (λ error. Reports (fault_of error)
             (item_fault payload.now payload_at tag_at)) }
-        ensures left { OnErr result ((more : List AFinding)
-            × (self.new.findings.items ≡ self.old.findings.items ++ more)) }
+        ensures left { OnErr result (Extends self.old.findings.items self.new.findings.items) }
     {
         let extent = extent_in(payload);
         let mut linted = LayerFindings::new(alloc, index, extent);
@@ -87,8 +86,7 @@ impl LintBuilder {
             → AreLinted index extent values linted.now layer.features
             → OnOk result (self.new.findings.items
             ≡ self.old.findings.items ++ layer_findings index layer) }
-        ensures left { OnErr result ((more : List AFinding)
-            × (self.new.findings.items ≡ self.old.findings.items ++ more)) }
+        ensures left { OnErr result (Extends self.old.findings.items self.new.findings.items) }
     {
         push_if(&mut self.findings, extent == 0, Finding::ZeroExtent(index))?;
         self.findings.extend_from_slice(&linted.findings)?;

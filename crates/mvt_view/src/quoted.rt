@@ -1,7 +1,8 @@
 //! Texts as strings of JSON.
-ghost use Rattle.std.specs.Prelude.{◌≡◌, ◌<◌, ◌≤◌, ◌++◌, ℕ, List, OnOk, OnErr, false, get_or, length, string_bytes};
+ghost use Rattle.std.specs.Prelude.{◌≡◌, ◌<◌, ◌≤◌, ◌++◌, OnOk, OnErr, false, get_or, length, string_bytes};
 ghost use Rattle.std.specs.Char.{digit_char};
 ghost use Rattle.std.specs.List.{list_all};
+ghost use Rattle.mvt_base.specs.Related.{Extends};
 ghost use Rattle.json.specs.Print.{escape, escape_byte, escape_letter, quoted};
 ghost use Rattle.mvt_view.specs.JsonForms.{is_clean as the_clean};
 ghost use Rattle.mvt_view.specs.Runs.{RunsTo};
@@ -17,8 +18,7 @@ const BLOCK: usize = 32;
 /// Appends a text as a string of JSON. After an error the text is as it was, or longer.
 pub fn push_quoted(text: &mut String, plain: &str) -> Result<(), AllocError>
     ensures ok { OnOk result (string_bytes text.new ≡ string_bytes text.old ++ quoted plain.now) }
-    ensures left { OnErr result ((more : List ℕ)
-        × (string_bytes text.new ≡ string_bytes text.old ++ more)) }
+    ensures left { OnErr result (Extends (string_bytes text.old) (string_bytes text.new)) }
 {
     text.push_str("\"")?;
     push_inside(text, plain)?;
@@ -29,8 +29,7 @@ pub fn push_quoted(text: &mut String, plain: &str) -> Result<(), AllocError>
 /// copied as it is.
 fn push_inside(text: &mut String, plain: &str) -> Result<(), AllocError>
     ensures ok { OnOk result (string_bytes text.new ≡ string_bytes text.old ++ escape plain.now) }
-    ensures left { OnErr result ((more : List ℕ)
-        × (string_bytes text.new ≡ string_bytes text.old ++ more)) }
+    ensures left { OnErr result (Extends (string_bytes text.old) (string_bytes text.new)) }
 {
     if plain.len() < SHORT && are_clean(plain.as_bytes()) {
         text.push_str(plain)
@@ -42,8 +41,7 @@ fn push_inside(text: &mut String, plain: &str) -> Result<(), AllocError>
 /// Appends the runs of clean bytes of a text, and the escapes of those between them.
 fn push_runs(text: &mut String, plain: &str) -> Result<(), AllocError>
     ensures ok { OnOk result (string_bytes text.new ≡ string_bytes text.old ++ escape plain.now) }
-    ensures left { OnErr result ((more : List ℕ)
-        × (string_bytes text.new ≡ string_bytes text.old ++ more)) }
+    ensures left { OnErr result (Extends (string_bytes text.old) (string_bytes text.new)) }
 {
     let bytes = plain.as_bytes();
     let mut at = 0;
@@ -88,8 +86,7 @@ fn clean_blocks(bytes: &[u8], from: usize) -> usize
 fn push_mark(text: &mut String, mark: u8) -> Result<(), AllocError>
     requires { the_clean mark ≡ false }
     ensures ok { OnOk result (string_bytes text.new ≡ string_bytes text.old ++ escape_byte mark) }
-    ensures left { OnErr result ((more : List ℕ)
-        × (string_bytes text.new ≡ string_bytes text.old ++ more)) }
+    ensures left { OnErr result (Extends (string_bytes text.old) (string_bytes text.new)) }
 {
     match mark {
         b'"' => text.push_str("\\\""),
@@ -108,8 +105,7 @@ fn push_control(text: &mut String, control: u8) -> Result<(), AllocError>
     requires low { control < 32 }
     requires letter { escape_letter control ≡ 0 }
     ensures ok { OnOk result (string_bytes text.new ≡ string_bytes text.old ++ escape_byte control) }
-    ensures left { OnErr result ((more : List ℕ)
-        × (string_bytes text.new ≡ string_bytes text.old ++ more)) }
+    ensures left { OnErr result (Extends (string_bytes text.old) (string_bytes text.new)) }
 {
     text.push_str("\\u00")?;
     text.push(hex(control / 16))?;
