@@ -12,7 +12,7 @@ from mvt.audit import files, stores
 from mvt.audit.stores import StoreError
 from mvt.page.given import Given, GivenError
 
-TILE = b"\x1a\x02\x0a\x00"
+TILE = b"\x1a\x04\x78\x02\x0a\x00"
 # What a name may lead to, beside a file.
 OTHERS = ("fifo", "zero", "terminal", "folder", "socket")
 

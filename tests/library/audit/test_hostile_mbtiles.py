@@ -22,7 +22,7 @@ from mvt.audit.stores import StoreError
 from mvt.audit.stores.waiting import asked_while
 from mvt.page.listing import key_of, spelled
 
-TILE = b"\x1a\x02\x0a\x00"
+TILE = b"\x1a\x04\x78\x02\x0a\x00"
 COLUMNS = "zoom_level integer, tile_column integer, tile_row integer, tile_data blob"
 TABLES = {
     "bare": [f"create table tiles ({COLUMNS})"],

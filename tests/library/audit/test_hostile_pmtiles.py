@@ -17,7 +17,7 @@ from mvt.audit.archive import ArchiveError, Directory, Header, unpacked
 from mvt.audit.stores import StoreError
 from mvt.audit.tile_ids import id_of, place_of
 
-TILE = b"\x1a\x02\x0a\x00"
+TILE = b"\x1a\x04\x78\x02\x0a\x00"
 # So many ids there are, of the zooms 0 to 31.
 PLACES = (4**32 - 1) // 3
 # Where the header says what.

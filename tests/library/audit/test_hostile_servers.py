@@ -17,7 +17,7 @@ from mvt.audit.stores import server as reader
 from test_server import Server, sent
 
 # Larger than what comes with a head.
-TILE = b"\x1a\x02\x0a\x00" * 100_000
+TILE = b"\x1a\x04\x78\x02\x0a\x00" + b"\x7a\x80\xb5\x18" + bytes(400_000)
 
 
 @pytest.fixture(autouse=True)
