@@ -1,9 +1,9 @@
 -- The feature in which the first fault of a layer stands is there: a fault of other rules stands in none.
-use Rattle.std.proofs.Common.{◌≡◌, ℕ, ◌+◌, suc, Bool, true, false, List, [], ◌∷◌, ◌++◌, length, slice_get, Option, Some, None, refl, sym, ap, ◌∙◌, subst, append_assoc, if◌then◌else◌}
+use Rattle.std.proofs.Common.{◌≡◌, ℕ, ◌+◌, Bool, true, false, List, [], ◌∷◌, ◌++◌, length, slice_get, Option, Some, None, refl, sym, ap, ◌∙◌, subst, append_assoc, if◌then◌else◌}
 use Rattle.std.specs.Prelude.{IfSome, is_none, not}
 use Rattle.std.specs.Option.{option_or, option_map}
 use Rattle.std.proofs.lemmas.Option.{none-some, same_Some}
-use Rattle.mvt_base.specs.Rules.{Rules, when, map_faults, rows, each, first}
+use Rattle.mvt_base.specs.Rules.{Rules, when, each, first}
 use Rattle.mvt_base.proofs.RuleLemmas.{each_first, first-map_faults, option_or-none, option_or-right, option_or-some}
 use Rattle.mvt_base.proofs.TableLemmas.{first-rows_all}
 use Rattle.mvt_attrs.specs.declared.value.Value.{Value}
@@ -17,7 +17,7 @@ use Rattle.mvt_feature.specs.Forms.{Form, message, number_rules, forms_rules, Ha
 use Rattle.mvt_feature.specs.Selection.{HaveForm, last_only, only}
 use Rattle.mvt_feature.specs.ValueRules.{are_one_kind, kinds, value_field_rules, value_rules, value_table}
 use Rattle.mvt_feature.specs.Values.{value_forms}
-use Rattle.mvt_message.specs.declared.numbers.layer.TheConstants.{NAME, FEATURES, VALUES, VERSION}
+use Rattle.mvt_message.specs.declared.numbers.layer.TheConstants.{NAME, FEATURES, VALUES}
 use Rattle.mvt_message.specs.Inner.{features_fault, forms_fault, header_fault, layer_fault, values_fault}
 use Rattle.mvt_message.specs.ItemRules.{feature_rules_of, item_fault, layer_field_rules, value_rules_of, version_rules}
 use Rattle.mvt_message.specs.LayerFields.{bytes_of, is_two, keys_in, layer_forms, values_in, version_forms, version_in}

@@ -1,5 +1,5 @@
 -- The layer and the feature of a first fault are there.
-use Rattle.std.proofs.Common.{arith, ◌≡◌, ℕ, ◌==◌, Bool, true, false, List, [], ◌∷◌, ◌++◌, length, take, Option, Some, None, refl, sym, ap, ◌∙◌, subst, if◌then◌else◌}
+use Rattle.std.proofs.Common.{arith, ◌≡◌, ℕ, ◌==◌, Bool, true, false, List, [], ◌∷◌, ◌++◌, length, take, Some, refl, sym, ap, ◌∙◌, subst, if◌then◌else◌}
 use Rattle.std.specs.Prelude.{filter, slice_get}
 use Rattle.std.specs.List.{AllByRecursion}
 use Rattle.std.specs.Option.{option_map}
@@ -18,7 +18,7 @@ use Rattle.mvt_tile.proofs.TileLaws.{layer_of_a_fault}
 use Rattle.mvt_tile_value.specs.declared.numbers.tile.TheConstants.{LAYERS}
 use Rattle.mvt_tile_value.specs.Tiles.{layers_of}
 use Rattle.mvt_places.specs.declared.message.Form.TheVariants.{Bytes}
-use Rattle.mvt_places.specs.Messages.{Message, formed, has_form, inside, nth_inside, whole}
+use Rattle.mvt_places.specs.Messages.{Message, formed, has_form, inside}
 use Rattle.mvt_places.specs.Places.{asked, feature_of, front, layer_of}
 
 -- ---- what is picked twice

@@ -4,7 +4,7 @@ use Rattle.std.specs.declared.io.ErrorKind.{ErrorKind}
 use Rattle.std.specs.declared.io.ErrorKind.TheVariants.{OutOfMemory}
 use Rattle.mvt_io.specs.Devices.{SourceState}
 use Rattle.mvt_tasks.specs.declared.memory.MemoryFile.{MemoryFile}
-use Rattle.mvt_tasks.specs.Folders.{bytes_of, file_named, held_in, kind_missing, missing_in}
+use Rattle.mvt_tasks.specs.Folders.{bytes_of, file_named, held_in}
 
 skips : {A : Type 0} (b : Bool) (x : A) (found : Option A) (y : A) (o : Option A) → cond b (Some x) o ≡ None → (o ≡ None → found ≡ Some y)
     → cond b (Some x) found ≡ Some y

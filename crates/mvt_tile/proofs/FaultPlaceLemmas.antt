@@ -17,9 +17,9 @@ use Rattle.mvt_message.specs.ItemRules.{item_fault, payload_names}
 use Rattle.mvt_tile_value.specs.declared.numbers.tile.TheConstants.{LAYERS}
 use Rattle.mvt_tile_value.specs.Tiles.{layers_of}
 use Rattle.mvt_tile.specs.declared.fault.Fault.{Fault}
-use Rattle.mvt_tile.specs.FaultPlaces.{IsInside, StandsIn}
+use Rattle.mvt_tile.specs.FaultPlaces.{StandsIn}
 use Rattle.mvt_tile.specs.Faults.{in_layer, is_open, outer_fault}
-use Rattle.mvt_tile.specs.Inner.Judging.{name_fault, payload_fault, repeated_at}
+use Rattle.mvt_tile.specs.Inner.Judging.{repeated_at}
 use Rattle.mvt_tile.specs.TileRules.{beyond, fault_within, field_rules, is_bytes, names_before, repeats, rest_rules, rest_rules_at, tile_rules}
 use Rattle.mvt_tile.proofs.LayerLemmas.{field_other, first-layer, first-wrong, layers_of-append, layers_of-layer, layers_of-other}
 use Rattle.mvt_tile.proofs.TileLemmas.{fault_of_long, fault_of_short, first-tile}
