@@ -12,15 +12,15 @@ import sys
 from typing import Dict, Iterable, Optional, Tuple
 
 import mvt
+from mvt.mercator import column_of, row_of
 
 EXTENT = 4096
 
 
 def position(lon: float, lat: float, z: int, x: int, y: int) -> Tuple[int, int]:
     """Where a place lies in the tile, by the projection of web maps."""
-    east = (lon + 180) / 360
-    south = (1 - math.asinh(math.tan(math.radians(lat))) / math.pi) / 2
-    return math.floor((east * 2**z - x) * EXTENT), math.floor((south * 2**z - y) * EXTENT)
+    east, south = column_of(lon) * 2**z - x, row_of(lat) * 2**z - y
+    return math.floor(east * EXTENT), math.floor(south * EXTENT)
 
 
 def value_of(text: str) -> mvt.Value:

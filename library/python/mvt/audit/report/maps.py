@@ -4,6 +4,7 @@ import math
 from collections import defaultdict
 from typing import Dict, List, NamedTuple, Tuple
 
+from ...mercator import latitude_of, longitude_of
 from ..judging import BROKEN, SQUARES
 from ..results import Results
 
@@ -118,7 +119,7 @@ def _svg(box: Box, cells: Dict[Tuple[int, int], float]) -> str:
 def _degrees(z: int, x: int, y: int) -> Tuple[float, float]:
     """The longitude and latitude of a corner of tiles."""
     size = 1 << z
-    return x / size * 360 - 180, math.degrees(math.atan(math.sinh(math.pi * (1 - 2 * y / size))))
+    return longitude_of(x / size), latitude_of(y / size)
 
 
 def _where(z: int, box: Box) -> str:

@@ -23,6 +23,7 @@ from urllib.parse import urljoin, urlsplit
 import mvt
 
 from ..._shown import shown
+from ...mercator import EDGE, column_of, row_of
 from ..files import MOST
 from ..unpacking import NotUnpacked, unpacked
 from . import Address, Content, Key, NotYet, Options, State, Store, StoreError
@@ -30,8 +31,6 @@ from . import Address, Content, Key, NotYet, Options, State, Store, StoreError
 DEEPEST = 30
 _MOST_OF_TILEJSON = 1 << 20
 _PIECE = 1 << 18
-# The latitude where the square map of the Web Mercator projection ends.
-_EDGE = 85.0511287798066
 # Bounds may lie some turns round the world.
 _MOST_DEGREES = 3600
 # A line has an address in it.
@@ -547,7 +546,7 @@ def _blocks(zooms: Tuple[int, int], bounds: Tuple[float, float, float, float]) -
     spans = [(west, east)] if west <= east else [(west, 180.0), (-180.0, east)]
     for z in range(zooms[0], zooms[1] + 1):
         top, bottom = _from_to(_row(north), _row(south), z)
-        columns = [_from_to(_column(left), _column(right), z) for left, right in spans]
+        columns = [_from_to(column_of(left), column_of(right), z) for left, right in spans]
         if len(columns) == 2 and columns[0][0] < columns[1][1]:
             columns = [(0, 1 << z)]
         for left, right in columns:
@@ -561,10 +560,5 @@ def _from_to(first: float, last: float, z: int) -> Tuple[int, int]:
     return low, max(low + 1, min(math.ceil(last * side), side))
 
 
-def _column(degrees: float) -> float:
-    return (degrees + 180) / 360
-
-
 def _row(degrees: float) -> float:
-    latitude = math.radians(min(max(degrees, -_EDGE), _EDGE))
-    return (1 - math.asinh(math.tan(latitude)) / math.pi) / 2
+    return row_of(min(max(degrees, -EDGE), EDGE))
