@@ -15,7 +15,7 @@ from mvt._mvt import located, looked_at
 
 from . import findings
 from .stores import Address, Content, Store
-from .unpacking import LIMIT, NotUnpacked, is_zlib, unpacked
+from .unpacking import LIMIT, NotUnpacked, tile_in
 
 ACCEPTED, REFUSED, EMPTY, NOT_UNPACKED, UNREAD = "accepted", "refused", "empty", "not unpacked", "unread"
 VERDICTS = (ACCEPTED, REFUSED, NOT_UNPACKED, EMPTY, UNREAD)
@@ -126,12 +126,9 @@ class Judge:
         if not isinstance(content, bytes):
             return Said(UNREAD, None, notes=_told(content))
         try:
-            tile = unpacked(content)
+            tile = tile_in(content)
         except NotUnpacked as why:
-            # What only looks like zlib and is a tile stays as it is.
-            if not (is_zlib(content) and _is_tile(content)):
-                return Said(NOT_UNPACKED, len(content), notes=str(why))
-            tile = content
+            return Said(NOT_UNPACKED, len(content), notes=str(why))
         if not tile:
             return _EMPTY
         try:
@@ -287,14 +284,6 @@ def _notes(told: bytes) -> str:
     if len(notes) > MOST_NOTES:
         notes[MOST_NOTES:] = [f"and {len(notes) - MOST_NOTES} more"]
     return "; ".join(notes)
-
-
-def _is_tile(content: bytes) -> bool:
-    try:
-        mvt.judge(content)
-    except mvt.Refused:
-        return False
-    return True
 
 
 def _fault(tile: bytes, told: _Fault) -> Tuple[Any, ...]:

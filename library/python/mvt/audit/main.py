@@ -9,9 +9,10 @@ import time
 from pathlib import Path
 from typing import Any, Dict, List, NoReturn, Optional, Sequence, Tuple
 
+from .._ending import hold_places
 from .._shown import shown
 from . import engine, report, serverwords, summary
-from .ending import Signals, hold_places, say, told, write
+from .ending import Signals, say, told, write
 from .progress import Progress
 from .results import Results, ResultsError
 from .stores import Options, State, Store, StoreError, found, opened

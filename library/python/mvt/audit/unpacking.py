@@ -4,6 +4,9 @@ import re
 import zlib
 from typing import List, Tuple
 
+from .._errors import Refused
+from .._mvt import judge
+
 # What the codec takes at most.
 LIMIT = 67_108_864
 
@@ -41,6 +44,24 @@ def unpacked(stored: bytes) -> bytes:
     except zlib.error as why:
         raise NotUnpacked(_reason(why)) from why
     return tile if stream.eof and not stream.unused_data else _unusual(stored)
+
+
+def tile_in(stored: bytes) -> bytes:
+    """The same, but what only looks like zlib and is a tile stays as it is."""
+    try:
+        return unpacked(stored)
+    except NotUnpacked:
+        if not (is_zlib(stored) and _is_tile(stored)):
+            raise
+        return stored
+
+
+def _is_tile(content: bytes) -> bool:
+    try:
+        judge(content)
+    except Refused:
+        return False
+    return True
 
 
 def _unusual(stored: bytes) -> bytes:

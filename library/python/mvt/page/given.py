@@ -1,15 +1,12 @@
 """What the command was given: stores, and files of one tile each."""
 
 import os
-import re
-from typing import Any, Dict, List, NamedTuple, Optional, Sequence, Tuple
+from typing import Any, Dict, List, NamedTuple, Optional, Sequence
 
 from .._shown import shown
 from ..audit import files
-from ..audit.stores import Key, Options, Store, StoreError, found
+from ..audit.stores import Key, Options, Store, StoreError, found, place_of
 
-# A zoom beyond this is none.
-_MOST_ZOOM = 30
 # A reason has so many letters at most.
 _REASON = 300
 
@@ -68,14 +65,6 @@ class Given:
     def file(self, number: int) -> bytes:
         """The bytes of a file, and no more of them than decide. Raises IndexError and OSError."""
         return files.read(self.files[number])
-
-
-def place_of(words: Sequence[str]) -> Optional[Tuple[int, int, int]]:
-    """z, x and y of a tile, perhaps beyond the world, where some stores have tiles too; None where the words are no place."""
-    if len(words) != 3 or not all(re.fullmatch("0|[1-9][0-9]{0,9}", word) for word in words):
-        return None
-    z, x, y = map(int, words)
-    return (z, x, y) if z <= _MOST_ZOOM else None
 
 
 def _line(why: Exception) -> str:

@@ -12,12 +12,11 @@ from http.server import BaseHTTPRequestHandler
 from typing import TYPE_CHECKING, Any, Dict, List, NamedTuple, Optional, Sequence
 from urllib.parse import parse_qsl
 
-from ..audit.stores import Key, Store, StoreError
+from ..audit.stores import Key, Store, StoreError, place_of
 from ..audit.stores.waiting import asked_while
 from ..audit.unpacking import LIMIT
 from . import calls, frames, listing
 from .frames import Part
-from .given import place_of
 from .guard import are_headers, denial
 
 if TYPE_CHECKING:

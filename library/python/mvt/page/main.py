@@ -2,7 +2,6 @@
 
 import argparse
 import os
-import resource
 import signal
 import sys
 import threading
@@ -10,12 +9,13 @@ from contextlib import ExitStack
 from pathlib import Path
 from typing import Optional, Sequence
 
+from .._ending import UNREAD, USAGE, bound_memory
 from ..audit import serverwords
 from . import launch
 from .given import Given, GivenError
 from .server import Server
 
-ENDED, USAGE, UNREAD = 0, 2, 3
+ENDED = 0
 _PAGE = Path(__file__).with_name("page.html")
 # So often, in seconds, it is looked whether a signal came that the system gave to another thread, which wakes nobody.
 _WAKES = 0.5
@@ -49,15 +49,6 @@ def _port(word: str) -> int:
 def _fail(line: str, status: int) -> int:
     print(f"mvt-page: {line}", file=sys.stderr)
     return status
-
-
-def _bound_memory() -> None:
-    """Takes half of the machine's memory at most: what wants more is told so, and the machine lives on. What threads
-    only reserve isn't counted."""
-    half = os.sysconf("SC_PAGE_SIZE") * os.sysconf("SC_PHYS_PAGES") // 2
-    soft, hard = resource.getrlimit(resource.RLIMIT_DATA)
-    if soft == resource.RLIM_INFINITY or soft > half:
-        resource.setrlimit(resource.RLIMIT_DATA, (half, hard))
 
 
 def _ended() -> threading.Event:
@@ -112,7 +103,7 @@ def main(words: Optional[Sequence[str]] = None) -> int:
     misplaced = serverwords.misplaced(given, what.stores)
     if misplaced:
         return _fail(misplaced, USAGE)
-    _bound_memory()
+    bound_memory()
     try:
         server = Server(given.port, page, what)
     except OSError as why:

@@ -4,14 +4,18 @@ takes, None for one that it doesn't, and raises StoreError for one that it shoul
 
 import importlib
 import importlib.metadata
+import re
 import sys
 from abc import ABC, abstractmethod
 from contextlib import closing
-from typing import Any, Callable, Iterator, List, NamedTuple, Optional, Tuple, Union
+from typing import Any, Callable, Iterator, List, NamedTuple, Optional, Sequence, Tuple, Union
 
 # The modules of this package that have a kind of store, as their function `opened`.
 KINDS = ("server", "listed", "mbtiles", "pmtiles", "tree")
 GROUP = "mvt.audit.stores"
+
+# A zoom beyond this is none.
+MOST_ZOOM = 30
 
 
 class StoreError(Exception):
@@ -124,6 +128,10 @@ class Store(ABC):
         OSError where it can't be read."""
         raise ValueError(key)
 
+    def lying(self, key: Key) -> bytes:
+        """The same as it lies in the store, where that unpacks it to hold it."""
+        return self.held(key)
+
 
 Kind = Callable[[str, Options], Optional[Store]]
 
@@ -146,6 +154,14 @@ def opened(path: str, options: Options = Options()) -> Store:
         f"{path}: no store of tiles; it is a folder {{z}}/{{x}}/{{y}}.mvt or .pbf, an .mbtiles or .pmtiles file,"
         " a .txt file with a file name on each line, or the address of a server"
     )
+
+
+def place_of(words: Sequence[str]) -> Optional[Tuple[int, int, int]]:
+    """z, x and y of a tile, perhaps beyond the world, where some stores have tiles too; None where the words are no place."""
+    if len(words) != 3 or not all(re.fullmatch("0|[1-9][0-9]{0,9}", word) for word in words):
+        return None
+    z, x, y = map(int, words)
+    return (z, x, y) if z <= MOST_ZOOM else None
 
 
 def _kinds() -> Iterator[Kind]:

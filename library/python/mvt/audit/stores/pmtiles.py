@@ -9,7 +9,7 @@ from functools import lru_cache, partial
 from typing import BinaryIO, Callable, Iterator, List, NamedTuple, Optional, Tuple, Union
 
 from .. import files
-from ..archive import GZIP, HEADER, MAGIC, MOST, MOST_TILES, ArchiveError, Directory, Entry, Header, Section, unpacked
+from ..archive import GZIP, HEADER, MAGIC, MOST, MOST_TILES, NONE, ArchiveError, Directory, Entry, Header, Section, unpacked
 from ..files import MOST as MOST_OF_A_TILE
 from ..files import ReadAhead
 from ..tile_ids import id_of, place_of
@@ -154,6 +154,9 @@ class PMTiles(Store):
                 raise FileNotFoundError(errno.ENOENT, "nothing is wrong there")
             raise OSError(errno.EIO, str(found[2]))
         return self._tile(tile_id)
+
+    def lying(self, key: Key) -> bytes:
+        return self._tile(_checked(key)[0], True)
 
     @property
     def header(self) -> Header:
@@ -315,14 +318,15 @@ class PMTiles(Store):
             raise ArchiveError(f"{found.name}: {found.why}")
         return found if isinstance(found, Entry) and found.tile_id <= wanted else None
 
-    def _tile(self, tile_id: int) -> bytes:
-        """A tile as it is stored. Raises OSError."""
+    def _tile(self, tile_id: int, as_it_lies: bool = False) -> bytes:
+        """A tile, out of the archive's compression where that is none that its first bytes tell. Raises OSError."""
         with self._reading() as file:
             entry = self._found(file, tile_id)
             if entry is None:
                 z, x, y = place_of(tile_id)
                 raise FileNotFoundError(errno.ENOENT, f"no tile {z}/{x}/{y}")
-            content = self._contents(file)(*entry[2:])
+            header = self.header._replace(compression=NONE) if as_it_lies else self.header
+            content = self._content(ReadAhead(file.fileno()), header, *entry[2:])
         if isinstance(content, Exception):
             raise OSError(errno.EIO, str(content)) from content
         return content

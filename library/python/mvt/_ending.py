@@ -1,0 +1,85 @@
+"""What commands have in common where they begin, write, complain and end."""
+
+import io
+import os
+import resource
+import signal
+import sys
+from typing import IO, Any, Optional
+
+from ._shown import shown
+
+USAGE, UNREAD, MEMORY = 2, 3, 4
+
+# A line has paths in it, and whole sentences.
+_LONGEST = 1000
+
+
+def hold_places() -> None:
+    """Has no file that is opened later take the place of an input, an output or errors that are closed."""
+    nowhere = os.open(os.devnull, os.O_RDWR)
+    while nowhere <= 2:
+        nowhere = os.dup(nowhere)
+    os.close(nowhere)
+
+
+def bound_memory() -> None:
+    """Takes half of the machine's memory at most: what wants more is told so, and the machine lives on. What threads
+    only reserve isn't counted."""
+    half = os.sysconf("SC_PAGE_SIZE") * os.sysconf("SC_PHYS_PAGES") // 2
+    soft, hard = resource.getrlimit(resource.RLIMIT_DATA)
+    if soft == resource.RLIM_INFINITY or soft > half:
+        resource.setrlimit(resource.RLIMIT_DATA, (half, hard))
+
+
+def say(command: str, line: str) -> None:
+    """A line on standard error, if anybody hears it."""
+    if sys.stderr is None:
+        return
+    try:
+        print(f"{command}: {shown(line, _LONGEST)}", file=sys.stderr, flush=True)
+    except OSError:
+        _leave(2)
+
+
+class Output:
+    """The output, in text or in bytes. Raises OSError where it can't be written; a reader who is gone ends the command, as
+    other programs end."""
+
+    def __init__(self) -> None:
+        signal.signal(signal.SIGPIPE, signal.SIG_DFL)
+        if sys.stdout is None:
+            raise OSError("the output is closed")
+        self._text: Any = sys.stdout
+        if isinstance(self._text, io.TextIOWrapper):
+            self._text.reconfigure(errors="backslashreplace")
+
+    def line(self, text: str) -> None:
+        self._write(self._text, text + "\n")
+
+    def bytes(self, content: bytes) -> None:
+        self._write(self._text.buffer, content)
+
+    def flush(self) -> None:
+        self._write(self._text, None)
+
+    def _write(self, file: "IO[Any]", content: Any) -> None:
+        try:
+            file.flush() if content is None else file.write(content)
+        except OSError as why:
+            _leave(1)
+            raise OSError(f"the output can't be written: {why.strerror}") from why
+
+
+def _leave(number: int) -> None:
+    """Has what a file still holds go nowhere, since Python would try to write it once more at its end."""
+    nowhere = os.open(os.devnull, os.O_WRONLY)
+    os.dup2(nowhere, number)
+    os.close(nowhere)
+
+
+def of_system(why: OSError) -> str:
+    """A failed call of the system, in a line."""
+    name: Optional[Any] = why.filename
+    what = why.strerror or str(why) or type(why).__name__
+    return what if name is None else f"{os.fsdecode(name) if isinstance(name, (str, bytes)) else name}: {what}"
