@@ -48,6 +48,7 @@ from ._mvt import (
 )
 from ._tiles import Feature, Foreign, Kind, Layer, Point, Tile
 from ._values import Float, Int, Sint, Uint, Value
+from .geojson import MadeLayer, Vanished, from_geojson, to_geojson
 
 if TYPE_CHECKING:
     import numpy
@@ -78,6 +79,7 @@ __all__ = [
     "Kind",
     "Layer",
     "LayerRow",
+    "MadeLayer",
     "MvtError",
     "NoLayer",
     "NoTile",
@@ -94,8 +96,10 @@ __all__ = [
     "Uint",
     "Value",
     "ValueRow",
+    "Vanished",
     "dtype",
     "extract",
+    "from_geojson",
     "judge",
     "lint",
     "read",
@@ -103,6 +107,7 @@ __all__ = [
     "report",
     "rewrite",
     "rows",
+    "to_geojson",
     "to_json",
     "to_svg",
     "write",

@@ -3,7 +3,7 @@
 import os
 import sys
 
-_COMMANDS = ("mvt.audit", "mvt.page")
+_COMMANDS = ("mvt.audit", "mvt.geojson", "mvt.page", "mvt.tile")
 
 # The folder that this package was imported from.
 _OWN = os.path.dirname(os.path.dirname(os.path.abspath(__file__)))
@@ -21,8 +21,9 @@ def path_without_here() -> "list[str]":
 
 
 def begin() -> None:
-    """Where `python3 -m mvt.audit` or `mvt.page` is being started, drops the current folder, which Python puts first of
-    those that modules are imported from. The audit's Ctrl-C ends Python as it ends other programs, until it heeds it."""
+    """Where a command is being started by `python3 -m`, such as `mvt.audit`, drops the current folder, which Python puts
+    first of those that modules are imported from. But for the page, Ctrl-C ends Python as it ends other programs, until a
+    command heeds it."""
     words = getattr(sys, "orig_argv", _COMMANDS)  # from Python 3.10 on
     if sys.argv[:1] != ["-m"] or not set(words) & set(_COMMANDS):
         return

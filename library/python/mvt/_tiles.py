@@ -4,6 +4,7 @@ from dataclasses import dataclass
 from typing import Any, ClassVar, Dict, Iterator, List, Literal, Optional, Tuple, Union
 
 from ._errors import NoLayer
+from ._objects import feature_of, geometry_of
 from ._values import Value
 
 Point = Tuple[int, int]
@@ -32,6 +33,12 @@ class Feature:
         mine, others = self.attributes, other.attributes
         return mine.keys() == others.keys() and all(_is_same(value, others[key]) for key, value in mine.items())
 
+    @property
+    def __geo_interface__(self) -> Dict[str, Any]:
+        """Its geometry as an object of GeoJSON, in the units of the tile, as shapely and others take it: an empty
+        collection where nothing is drawn."""
+        return geometry_of(self.kind, self.geometry) or {"type": "GeometryCollection", "geometries": []}
+
 
 def _is_same(one: Value, other: Value) -> bool:
     return one == other or (one != one and other != other)
@@ -46,6 +53,11 @@ class Layer:
     name: str
     extent: int
     features: List[Feature]
+
+    @property
+    def __geo_interface__(self) -> Dict[str, Any]:
+        """Its features as a collection of GeoJSON, in the units of the tile."""
+        return {"type": "FeatureCollection", "features": list(map(feature_of, self.features))}
 
 
 @dataclass

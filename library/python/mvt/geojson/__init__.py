@@ -1,0 +1,6 @@
+"""GeoJSON (RFC 7946) of tiles, and layers of GeoJSON. `python3 -m mvt.geojson` is the command `mvt-geojson`."""
+
+from .making import to_geojson
+from .reading import MadeLayer, Vanished, from_geojson
+
+__all__ = ["MadeLayer", "Vanished", "from_geojson", "to_geojson"]
