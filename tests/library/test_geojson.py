@@ -2,11 +2,13 @@
 from Web Mercator, and from GDAL where it is there."""
 
 import gzip
+import http.server
 import json
 import math
 import shutil
 import subprocess
 import sys
+import threading
 import zlib
 from pathlib import Path
 
@@ -300,6 +302,32 @@ def stores(tmp_path_factory):
     return room
 
 
+class Served(http.server.BaseHTTPRequestHandler):
+    """A TileJSON of zoom 14, and the town's tile in gzip."""
+
+    def do_GET(self):
+        said = {"tiles": ["{z}/{x}/{y}.pbf"], "minzoom": 14, "maxzoom": 14}
+        contents = {"/tiles.json": json.dumps(said).encode(), "/14/8192/8191.pbf": gzip.compress(TOWN)}
+        body = contents.get(self.path, b"")
+        self.send_response(200 if body else 404)
+        if self.path.endswith(".pbf"):
+            self.send_header("Content-Encoding", "gzip")
+        self.send_header("Content-Length", str(len(body)))
+        self.end_headers()
+        self.wfile.write(body)
+
+    def log_message(self, *_):
+        pass
+
+
+@pytest.fixture(scope="module")
+def server():
+    with http.server.ThreadingHTTPServer(("127.0.0.1", 0), Served) as serving:
+        threading.Thread(target=serving.serve_forever, daemon=True).start()
+        yield f"http://127.0.0.1:{serving.server_port}"
+        serving.shutdown()
+
+
 WANTED = json.dumps(mvt.to_geojson(TOWN, *PLACE), sort_keys=True)
 
 
@@ -312,6 +340,23 @@ class TestCommands:
             assert run(stores / name, "14/8192/8191", module="tile") == (0, TOWN, "")
             status, lying, errors = run(stores / name, "14/8192/8191", "--raw", module="tile")
             assert (status, gzip.decompress(lying), errors) == (0, TOWN, "")
+
+    def test_from_a_server(self, server):
+        for address in (f"{server}/tiles.json", server + "/{z}/{x}/{y}.pbf"):
+            status, out, errors = run(address, "14/8192/8191")
+            assert (status, errors) == (0, "")
+            assert json.dumps(json.loads(out), sort_keys=True) == WANTED
+            got, out, errors = run(address, "14/0/0")
+            assert (got, out, errors.count("\n")) == (3, b"", 1)
+
+    @pytest.mark.parametrize("packed, name", [(3, "brotli"), (4, "zstandard")])
+    def test_out_of_an_archive_of_each_compression(self, packed, name, tmp_path):
+        module = pytest.importorskip(name, reason=f"{name} isn't there")
+        content = module.compress(TOWN)
+        path = tmp_path / "a.pmtiles"
+        path.write_bytes(archives.archive({PLACE: content}, packed=packed))
+        assert run(path, "14/8192/8191", module="tile") == (0, TOWN, "")
+        assert run(path, "14/8192/8191", "--raw", module="tile") == (0, content, "")
 
     def test_from_a_file_and_standard_input(self, tmp_path):
         packed = [TOWN, gzip.compress(TOWN), zlib.compress(TOWN)]
