@@ -265,8 +265,23 @@ private:
     mvt_bytes held_{};
 };
 
-/// A value: a text, a number or a truth. A signed number is an int or a sint, by the `kind` of its row.
-using value = std::variant<std::string_view, float, double, std::int64_t, std::uint64_t, bool>;
+/// A whole number that a tile spells as an int (below zero in ten bytes), or as a sint. Each is a type of its own, so that
+/// what was read is what is built, and is its number where one is wanted.
+template <mvt_value_kind Kind>
+class signed_value {
+public:
+    constexpr explicit signed_value(std::int64_t number) noexcept : number_(number) {}
+    [[nodiscard]] constexpr operator std::int64_t() const noexcept { return number_; }
+    [[nodiscard]] friend constexpr bool operator==(signed_value, signed_value) noexcept = default;
+
+private:
+    std::int64_t number_;
+};
+using int_value = signed_value<MVT_INT>;
+using sint_value = signed_value<MVT_SINT>;
+
+/// A value: a text, a number or a truth. An unsigned number is a uint.
+using value = std::variant<std::string_view, float, double, int_value, std::uint64_t, sint_value, bool>;
 
 /// A tile as rows. Views of its lists and texts are valid as long as the tile lives, so a temporary has none. A call that
 /// takes a row throws error if the row is of another tile and leads beyond this one's lists; a tile that was moved from has
@@ -350,8 +365,9 @@ public:
         case MVT_FLOAT: return std::bit_cast<float>(static_cast<std::uint32_t>(row.bits));
         case MVT_DOUBLE: return std::bit_cast<double>(row.bits);
         case MVT_UINT: return row.bits;
+        case MVT_SINT: return sint_value(static_cast<std::int64_t>(row.bits));
         case MVT_BOOL: return row.bits != 0;
-        default: return static_cast<std::int64_t>(row.bits);
+        default: return int_value(static_cast<std::int64_t>(row.bits));
         }
     }
     value value_of(const mvt_value &) const && = delete;
@@ -506,11 +522,12 @@ template <std::ranges::input_range Names>
 [[nodiscard]] inline bytes svg(input of) { return detail::made(of, mvt_svg); }
 
 namespace detail {
-/// A value for the builder. A whole number is a uint or, if negative, a sint; mvt_any_int and the like make other
-/// kinds.
+/// A value for the builder. A whole number is a uint or, if negative, a sint; the other kinds have types of their own.
 template <class T>
 mvt_any any_of(const T &value) {
     if constexpr (std::same_as<T, mvt_any>) return value;
+    else if constexpr (std::same_as<T, int_value>) return mvt_any_int(value);
+    else if constexpr (std::same_as<T, sint_value>) return mvt_any_sint(value);
     else if constexpr (std::same_as<T, bool>) return mvt_any_bool(value);
     else if constexpr (std::same_as<T, float>) return mvt_any_float(value);
     else if constexpr (std::same_as<T, double>) return mvt_any_double(value);
@@ -525,8 +542,9 @@ inline mvt_any any_of(const value &of) {
 }
 
 template <class T>
-concept valued = std::same_as<T, mvt_any> || std::same_as<T, value> || std::integral<T> || std::same_as<T, float> ||
-                 std::same_as<T, double> || std::convertible_to<const T &, text_input>;
+concept valued = std::same_as<T, mvt_any> || std::same_as<T, value> || std::same_as<T, int_value> ||
+                 std::same_as<T, sint_value> || std::integral<T> || std::same_as<T, float> || std::same_as<T, double> ||
+                 std::convertible_to<const T &, text_input>;
 } // namespace detail
 
 /// Makes a tile step by step: begin a layer, begin a feature, add its tags and its points, and finish.
@@ -574,7 +592,8 @@ public:
     builder &feature(mvt_kind kind, std::uint64_t id) { return feature(kind).id(id); }
     builder &id(std::uint64_t id) { return done(mvt_builder_id(&held_, id)); }
 
-    /// Adds an attribute, by key and value or by their indices.
+    /// Adds an attribute, by key and value or by their indices. A whole number is a uint or, if negative, a sint; an
+    /// int_value, a sint_value and whatever `attributes` gives are written as they are.
     template <detail::valued T>
     builder &tag(text_input key, const T &value) {
         return done(mvt_builder_tag(&held_, key.bytes(), detail::any_of(value)));

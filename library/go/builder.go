@@ -98,9 +98,9 @@ func (b *Builder) ID(id uint64) *Builder {
 	return b
 }
 
-// Tag adds an attribute to the feature. The value is a string, a bool, a float32, a float64 or an integer. An integer of a
-// type with a sign is written as an int_value, one of a type without a sign as a uint_value, and a Sint as a sint_value. For
-// any other value Finish says that it has no kind.
+// Tag adds an attribute to the feature. The value is a string, a bool, a float32, a float64 or an integer. An integer is
+// written as a uint_value or, below zero, as a sint_value; an Int as an int_value, and a Sint as a sint_value. For any other
+// value Finish says that it has no kind.
 func (b *Builder) Tag(key string, value any) *Builder {
 	given, ok := valueOf(value)
 	if !ok {
@@ -189,6 +189,8 @@ func (b *Builder) Finish() ([]byte, error) {
 // valueOf is a value as C takes it, and whether a tile has a kind for it. Its text is lent.
 func valueOf(value any) (C.mvt_any, bool) {
 	switch given := value.(type) {
+	case Int:
+		return number(C.MVT_INT, uint64(given)), true
 	case Sint:
 		return number(C.MVT_SINT, uint64(given)), true
 	case float32:
@@ -207,7 +209,10 @@ func valueOf(value any) (C.mvt_any, bool) {
 	case reflect.Float64:
 		return number(C.MVT_DOUBLE, math.Float64bits(given.Float())), true
 	case reflect.Int, reflect.Int8, reflect.Int16, reflect.Int32, reflect.Int64:
-		return number(C.MVT_INT, uint64(given.Int())), true
+		if given.Int() < 0 {
+			return number(C.MVT_SINT, uint64(given.Int())), true
+		}
+		return number(C.MVT_UINT, uint64(given.Int())), true
 	case reflect.Uint, reflect.Uint8, reflect.Uint16, reflect.Uint32, reflect.Uint64:
 		return number(C.MVT_UINT, given.Uint()), true
 	}

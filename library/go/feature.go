@@ -37,11 +37,15 @@ func (f Feature) ID() (uint64, bool) { return uint64(f.row.id), f.row.has_id == 
 // Kind is what the geometry is.
 func (f Feature) Kind() Kind { return Kind(f.row.kind) }
 
-// Attribute is a key and its value: a string, bool, float32, float64, int64, uint64 or Sint.
+// Attribute is a key and its value: a string, bool, float32, float64, uint64, Int or Sint. A builder writes these as they
+// were read.
 type Attribute struct {
 	Key   string
 	Value any
 }
+
+// Int is an integer that a tile holds as an int_value: below zero it takes ten bytes.
+type Int int64
 
 // Sint is an integer that a tile holds as a sint_value.
 type Sint int64

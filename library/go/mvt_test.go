@@ -175,7 +175,7 @@ func shown(tile *mvt.Tile) string {
 func TestThePartsOfATile(t *testing.T) {
 	builder := mvt.NewBuilder()
 	builder.Layer("places", 512).Feature(mvt.Points).ID(7).Tag("name", "Mill Pond").Tag("depth", 3.5).Tag("deep", true)
-	builder.Tag("n", uint64(5)).Tag("i", -5).Tag("f", float32(0.5)).Tag("s", mvt.Sint(-1))
+	builder.Tag("n", 5).Tag("i", mvt.Int(-5)).Tag("f", float32(0.5)).Tag("s", -1)
 	builder.Points(mvt.Point{25, 17}, mvt.Point{-1, 2})
 	builder.Layer("water", 4096).Feature(mvt.Polygons).Ring(true).Points(mvt.Point{0, 0}, mvt.Point{10, 0}, mvt.Point{0, 10})
 	builder.Feature(mvt.Unknown).Integers(7, 9)
@@ -188,7 +188,7 @@ func TestThePartsOfATile(t *testing.T) {
 	place := layers[0].Features()[0]
 	id, has := place.ID()
 	same(t, "id", []any{id, has, place.Kind()}, []any{uint64(7), true, mvt.Points})
-	wanted := []mvt.Attribute{{"name", "Mill Pond"}, {"depth", 3.5}, {"deep", true}, {"n", uint64(5)}, {"i", int64(-5)}}
+	wanted := []mvt.Attribute{{"name", "Mill Pond"}, {"depth", 3.5}, {"deep", true}, {"n", uint64(5)}, {"i", mvt.Int(-5)}}
 	wanted = append(wanted, mvt.Attribute{"f", float32(0.5)}, mvt.Attribute{"s", mvt.Sint(-1)})
 	same(t, "attributes", place.Attributes(), wanted)
 	same(t, "parts", place.Parts(), []mvt.Part{{Points: []mvt.Point{{25, 17}, {-1, 2}}}})
@@ -254,6 +254,26 @@ func TestKeysAndValuesByTheirIndices(t *testing.T) {
 	same(t, "line", layer.Features()[0].Parts(), []mvt.Part{{Points: []mvt.Point{{1, 2}, {3, 4}}}})
 }
 
+// Each language's builder makes the same bytes of values of all kinds, and what was read is what is built.
+func TestEachKindOfValue(t *testing.T) {
+	wanted, err := os.ReadFile(filepath.Join(os.Getenv("MVT_TILES"), "kinds.mvt"))
+	must(t, err, wanted)
+	builder := mvt.NewBuilder()
+	builder.Layer("a", 4096).Feature(mvt.Points).Point(25, 17)
+	builder.Tag("s", "x").Tag("f", float32(2.5)).Tag("d", 3.5).Tag("i", mvt.Int(-5)).Tag("p", mvt.Int(5))
+	builder.Tag("u", 5).Tag("n", -5).Tag("z", mvt.Sint(5)).Tag("b", true)
+	made, err := builder.Finish()
+	same(t, "built", must(t, err, made), wanted)
+	tile, err := mvt.Read(wanted)
+	feature := must(t, err, tile).Layers()[0].Features()[0]
+	builder.Layer("a", 4096).Feature(mvt.Points).Point(25, 17)
+	for _, attribute := range feature.Attributes() {
+		builder.Tag(attribute.Key, attribute.Value)
+	}
+	again, err := builder.Finish()
+	same(t, "built of what was read", must(t, err, again), wanted)
+}
+
 type name string
 
 func TestValuesOfOtherTypes(t *testing.T) {
@@ -263,7 +283,7 @@ func TestValuesOfOtherTypes(t *testing.T) {
 	made, err := builder.Finish()
 	tile, wrong := mvt.Read(must(t, err, made))
 	layer, _ := must(t, wrong, tile).Layer("a")
-	wanted := []mvt.Attribute{{"text", "x"}, {"small", int64(-1)}, {"byte", uint64(255)}, {"time", int64(1e9)}}
+	wanted := []mvt.Attribute{{"text", "x"}, {"small", mvt.Sint(-1)}, {"byte", uint64(255)}, {"time", uint64(1e9)}}
 	same(t, "attributes", layer.Features()[0].Attributes(), wanted)
 	for _, value := range []any{nil, []byte("x"), complex(1, 2), &made} {
 		_, err = builder.Layer("a", 1).Feature(mvt.Points).Points(mvt.Point{}).Tag("k", value).Finish()

@@ -128,7 +128,7 @@ func (t *Tile) value(row C.mvt_value) any {
 	case C.MVT_DOUBLE:
 		return math.Float64frombits(bits)
 	case C.MVT_INT:
-		return int64(bits)
+		return Int(bits)
 	case C.MVT_UINT:
 		return bits
 	case C.MVT_SINT:

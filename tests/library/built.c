@@ -1,4 +1,4 @@
-/* The builder, and the words for a status and a fault. Prints nothing where all is well. */
+/* The builder, and the words for a status and a fault: built KINDS.mvt. Prints nothing where all is well. */
 #include "mvt.h"
 
 #include <inttypes.h>
@@ -29,6 +29,28 @@ static void build_point(void) {
     require(out.len == sizeof known && memcmp(out.data, known, sizeof known) == 0, "the bytes of a point");
     mvt_bytes_free(&out);
     require(mvt_builder_finish(&builder, &out) == MVT_OK && out.len == 0, "a builder that begins anew is empty");
+}
+
+/* The file is what each language's builder makes of values of all kinds. */
+static void build_kinds(const char *path) {
+    static const char *const keys[] = {"s", "f", "d", "i", "p", "u", "n", "z", "b"};
+    const mvt_any values[] = {mvt_any_text(mvt_text("x")), mvt_any_float(2.5f), mvt_any_double(3.5),
+                              mvt_any_int(-5),             mvt_any_int(5),      mvt_any_uint(5),
+                              mvt_any_sint(-5),            mvt_any_sint(5),     mvt_any_bool(1)};
+    uint8_t wanted[256];
+    FILE *file = fopen(path, "rb");
+    require(file != NULL, "the file of values of all kinds");
+    const size_t len = fread(wanted, 1, sizeof wanted, file);
+    fclose(file);
+    mvt_builder builder = {0};
+    mvt_bytes out = {0};
+    mvt_builder_layer(&builder, mvt_text("a"), 4096);
+    mvt_builder_feature(&builder, MVT_POINTS);
+    mvt_builder_point(&builder, 25, 17);
+    for (int i = 0; i < 9; ++i) mvt_builder_tag(&builder, mvt_text(keys[i]), values[i]);
+    require(mvt_builder_finish(&builder, &out) == MVT_OK, "values of all kinds are built");
+    require(out.len == len && memcmp(out.data, wanted, len) == 0, "the bytes of values of all kinds");
+    mvt_bytes_free(&out);
 }
 
 /* Two layers with a feature of each kind and a value of each kind, read again. */
@@ -344,8 +366,10 @@ static void explain(void) {
     require(strcmp(mvt_version(), MVT_VERSION) == 0, "the version of the library");
 }
 
-int main(void) {
+int main(int argc, char **argv) {
+    require(argc == 2, "built KINDS.mvt: the tile of tests/library/kinds.hex");
     build_point();
+    build_kinds(argv[1]);
     build_all();
     build_many();
     build_clashes();

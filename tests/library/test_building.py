@@ -1,6 +1,7 @@
 """The builder makes the tile that its calls say."""
 
 import unittest
+from pathlib import Path
 
 import mvt
 
@@ -45,6 +46,18 @@ class Building(unittest.TestCase):
             ]
         )
         self.assertEqual(tile, wanted)
+
+    def test_each_kind_of_value(self):
+        """Each language's builder makes the same bytes of values of all kinds, and what was read is what is built."""
+        lines = Path(__file__).with_name("kinds.hex").read_text().splitlines()
+        wanted = bytes.fromhex("".join(line.partition("#")[0] for line in lines))
+        values = {"s": "x", "f": mvt.Float(2.5), "d": 3.5, "i": mvt.Int(-5), "p": mvt.Int(5), "u": 5, "n": -5,
+                  "z": mvt.Sint(5), "b": True}
+        for attributes in (values, mvt.read(wanted)["a"].features[0].attributes):
+            builder = mvt.Builder().layer("a").feature("points").point(25, 17)
+            for key, value in attributes.items():
+                builder.tag(key, value)
+            self.assertEqual(builder.finish(), wanted)
 
     def test_empty_texts_first(self):
         builder = mvt.Builder().layer("")

@@ -1,7 +1,8 @@
 // The wrapper for C++ as the program: wrapped COMMAND [NAME..] < tile. Its output, its line on standard error and its
 // status are those of `mvt COMMAND`. The commands `hold`, `look`, `write`, `share`, `take`, `lend`, `explain`,
-// `build` and `mix` test the owners, the views, what is written of rows, threads, what bytes and names are taken, what is
-// told of a fault, the builder, and what belongs to another tile or to none; they print nothing.
+// `build`, `kinds` and `mix` test the owners, the views, what is written of rows, threads, what bytes and names are taken,
+// what is told of a fault, the builder, its values of each kind, and what belongs to another tile or to none; they print
+// nothing.
 #include "mvt.hpp"
 
 #include <algorithm>
@@ -211,7 +212,7 @@ void build() {
         tile.attributes(layer, feature, [&](std::string_view key, const mvt::value &it) { tags.emplace_back(key, it); });
     const std::vector<std::pair<std::string, mvt::value>> wanted{
         {"name", "Mill"},        {"floors", std::uint64_t{3}}, {"high", true}, {"area", 64.5}, {"floors", std::uint64_t{3}},
-        {"below", std::int64_t{-1}}, {"wide", 2.5f}};
+        {"below", mvt::sint_value(-1)}, {"wide", 2.5f}};
     require(tags == wanted, "other attributes");
     try {
         builder.tag("no", "feature");
@@ -220,6 +221,21 @@ void build() {
         require(false, "a call out of turn is no tile");
     } catch (const mvt::error &) {
     }
+}
+
+/// The input is what each language's builder makes of values of all kinds, and what was read is what is built.
+void kinds(mvt::byte_span input) {
+    mvt::builder builder;
+    builder.layer("a").feature(MVT_POINTS).point(25, 17);
+    builder.tag("s", "x").tag("f", 2.5f).tag("d", 3.5).tag("i", mvt::int_value(-5)).tag("p", mvt::int_value(5));
+    builder.tag("u", 5).tag("n", -5).tag("z", mvt::sint_value(5)).tag("b", true);
+    require(std::ranges::equal(builder.finish(), input), "other bytes of values of all kinds");
+    const mvt::tile tile = mvt::read(input);
+    const mvt_layer &layer = tile.layers()[0];
+    builder.layer("a").feature(MVT_POINTS).point(25, 17);
+    tile.attributes(layer, tile.features(layer)[0],
+                    [&](std::string_view key, const mvt::value &it) { builder.tag(std::string(key), it); });
+    require(std::ranges::equal(builder.finish(), input), "what was read is built as something else");
 }
 
 /// Views and attributes lie within the tile, and values have the kinds of their rows.
@@ -307,6 +323,7 @@ void call(const std::string &command, const std::vector<std::string_view> &names
     if (command == "mix") return mix(input);
     if (command == "explain") return explain();
     if (command == "build") return build();
+    if (command == "kinds") return kinds(input);
     if (command == "pieces") return pieces(input);
     if (command == "write") return write(input);
     if (command == "check") return put(mvt::report(input));

@@ -94,7 +94,7 @@ impl Builder {
         self
     }
 
-    /// Adds an attribute to the feature.
+    /// Adds an attribute to the feature. A whole number is a uint or, below zero, a sint; a [`Value`] is of its own kind.
     pub fn tag<'v>(&mut self, key: &str, value: impl Into<Value<'v>>) -> &mut Self {
         // SAFETY: the texts are lent for the call.
         unsafe { sys::mvt_builder_tag(&mut self.0, lent(key.as_bytes()), any_of(value.into())) };

@@ -12,7 +12,7 @@ pub enum Value<'t> {
     Float(f32),
     /// A number of double precision.
     Double(f64),
-    /// An integer, as `int_value`.
+    /// An integer, as `int_value`: below zero it takes ten bytes.
     Int(i64),
     /// An integer without a sign.
     Uint(u64),
@@ -59,7 +59,22 @@ macro_rules! value_from {
     )*};
 }
 
-value_from!(Float: f32, Double: f64, Int: i64, Int: i32, Uint: u64, Uint: u32, Bool: bool);
+/// A whole number is a uint or, below zero, a sint.
+macro_rules! value_from_whole {
+    ($($given:ty),*) => {$(
+        impl From<$given> for Value<'_> {
+            fn from(given: $given) -> Self {
+                match u64::try_from(given) {
+                    Ok(number) => Value::Uint(number),
+                    Err(_) => Value::Sint(given as i64),
+                }
+            }
+        }
+    )*};
+}
+
+value_from!(Float: f32, Double: f64, Bool: bool);
+value_from_whole!(i8, i16, i32, i64, isize, u8, u16, u32, u64, usize);
 
 impl<'t> From<&'t str> for Value<'t> {
     fn from(text: &'t str) -> Self {

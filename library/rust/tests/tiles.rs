@@ -127,8 +127,11 @@ fn made() -> mvt::Bytes {
     let mut builder = Builder::new();
     builder.layer("places", 512).feature(Kind::Points).id(7);
     builder.tag("name", "Mill Pond").tag("depth", 3.5);
-    builder.tag("deep", true).tag("n", 5_u64).tag("i", -5_i64);
-    builder.tag("f", 0.5_f32).tag("s", Value::Sint(-1));
+    builder
+        .tag("deep", true)
+        .tag("n", 5)
+        .tag("i", Value::Int(-5));
+    builder.tag("f", 0.5_f32).tag("s", -1);
     builder.points(&[Point::new(25, 17), Point::new(-1, 2)]);
     builder.layer("water", 4096);
     builder.feature(Kind::Polygons).ring(true);
@@ -175,6 +178,39 @@ fn geometries() {
     assert!(water[0].parts().next().unwrap().is_exterior);
     assert_eq!(water[1].kind(), Kind::Unknown);
     assert_eq!(water[1].integers(), [7, 9]);
+}
+
+/// Each language's builder makes the same bytes of values of all kinds, and what was read is what is built.
+#[test]
+fn each_kind_of_value() {
+    let path = PathBuf::from(env::var("MVT_TILES").unwrap()).join("kinds.mvt");
+    let wanted = fs::read(path).unwrap();
+    let mut builder = Builder::new();
+    builder.layer("a", 4096).feature(Kind::Points).point(25, 17);
+    builder.tag("s", "x").tag("f", 2.5_f32).tag("d", 3.5);
+    builder.tag("i", Value::Int(-5)).tag("p", Value::Int(5));
+    builder.tag("u", 5).tag("n", -5);
+    builder.tag("z", Value::Sint(5)).tag("b", true);
+    assert_eq!(*builder.finish().unwrap(), wanted);
+    let tile = mvt::read(&wanted).unwrap();
+    builder.layer("a", 4096).feature(Kind::Points).point(25, 17);
+    let feature = tile.layer("a").unwrap().features().next().unwrap();
+    for (key, value) in feature.attributes() {
+        builder.tag(key, value);
+    }
+    assert_eq!(*builder.finish().unwrap(), wanted);
+}
+
+#[test]
+fn whole_numbers_of_each_type() {
+    let small = [Value::from(-1_i8), Value::from(-1_i16), Value::from(-1_i32)];
+    let large = [Value::from(-1_i64), Value::from(-1_isize)];
+    assert!(small.iter().chain(&large).all(|it| *it == Value::Sint(-1)));
+    let small = [Value::from(7_u8), Value::from(7_u16), Value::from(7_u32)];
+    let large = [Value::from(7_u64), Value::from(7_usize), Value::from(7_i8)];
+    assert!(small.iter().chain(&large).all(|it| *it == Value::Uint(7)));
+    assert_eq!(Value::from(i64::MIN), Value::Sint(i64::MIN));
+    assert_eq!(Value::from(u64::MAX), Value::Uint(u64::MAX));
 }
 
 #[test]
