@@ -253,6 +253,7 @@ public:
     [[nodiscard]] const std::uint8_t *end() const & noexcept { return held_.data + held_.len; }
     [[nodiscard]] byte_span span() const & noexcept { return {held_.data, held_.len}; }
     [[nodiscard]] std::string_view text() const & noexcept { return view(); }
+    [[nodiscard]] friend bool operator==(const bytes &one, const bytes &other) noexcept { return one.view() == other.view(); }
     const std::uint8_t *data() const && = delete;
     const std::uint8_t *begin() const && = delete;
     const std::uint8_t *end() const && = delete;
@@ -282,6 +283,8 @@ using sint_value = signed_value<MVT_SINT>;
 
 /// A value: a text, a number or a truth. An unsigned number is a uint.
 using value = std::variant<std::string_view, float, double, int_value, std::uint64_t, sint_value, bool>;
+
+class attribute_range;
 
 /// A tile as rows. Views of its lists and texts are valid as long as the tile lives, so a temporary has none. A call that
 /// takes a row throws error if the row is of another tile and leads beyond this one's lists; a tile that was moved from has
@@ -347,17 +350,19 @@ public:
     }
     std::string_view text(mvt_span) const && = delete;
 
-    /// Calls `visit(key, value)` with each attribute of a feature of the layer, in order.
+    /// The attributes of a feature of the layer, in order: `for (auto [key, value] : tile.attributes(layer, feature))`.
+    [[nodiscard]] attribute_range attributes(const mvt_layer &layer, const mvt_feature &feature) const &;
+    attribute_range attributes(const mvt_layer &, const mvt_feature &) const && = delete;
+
+    /// Calls `visit(key, value)` with each of them.
     template <class Visit>
-    void attributes(const mvt_layer &layer, const mvt_feature &feature, Visit visit) const & {
-        const auto keys = part(rows_.keys, rows_.key_count, layer.keys);
-        const auto values = part(rows_.values, rows_.value_count, layer.values);
-        const auto tags = part(rows_.tags, rows_.tag_count, feature.tags);
-        for (std::size_t i = 0; i + 1 < tags.size(); i += 2)
-            visit(text(at(keys, tags[i])), value_of(at(values, tags[i + 1])));
-    }
+    void attributes(const mvt_layer &layer, const mvt_feature &feature, Visit visit) const &;
     template <class Visit>
     void attributes(const mvt_layer &, const mvt_feature &, Visit) const && = delete;
+
+    /// The value that a feature of the layer has for a key, if it has one.
+    [[nodiscard]] std::optional<value> attribute(const mvt_layer &layer, const mvt_feature &feature, text_input key) const &;
+    std::optional<value> attribute(const mvt_layer &, const mvt_feature &, text_input) const && = delete;
 
     [[nodiscard]] value value_of(const mvt_value &row) const & {
         switch (row.kind) {
@@ -372,7 +377,13 @@ public:
     }
     value value_of(const mvt_value &) const && = delete;
 
+    /// Whether the canonical bytes are equal, so keys and values that no feature uses don't count, and numbers are equal if
+    /// their bits are. Makes these bytes, and throws what `write` throws.
+    friend bool operator==(const tile &one, const tile &other);
+
 private:
+    friend class attribute_range;
+
     [[noreturn]] static void refuse() { throw error("a row of another tile, or of one that was moved from"); }
 
     template <class Row>
@@ -390,6 +401,86 @@ private:
 
     mvt_tile rows_{};
 };
+
+/// The attributes of a feature: pairs of a key and a value. A view of the tile, which it may not outlive. Throws error where a
+/// tag leads beyond the layer's keys or values.
+class attribute_range : public std::ranges::view_base {
+public:
+    class iterator {
+    public:
+        using value_type = std::pair<std::string_view, value>;
+        using difference_type = std::ptrdiff_t;
+        using iterator_category = std::input_iterator_tag; // it makes its pairs, and
+        using iterator_concept = std::forward_iterator_tag; // can begin anew
+
+        iterator() noexcept = default;
+        [[nodiscard]] value_type operator*() const {
+            return {of_->text(tile::at(keys_, tag_[0])), of_->value_of(tile::at(values_, tag_[1]))};
+        }
+        iterator &operator++() noexcept {
+            tag_ += 2;
+            return *this;
+        }
+        iterator operator++(int) noexcept {
+            iterator before = *this;
+            ++*this;
+            return before;
+        }
+        [[nodiscard]] friend bool operator==(const iterator &one, const iterator &other) noexcept {
+            return one.tag_ == other.tag_;
+        }
+
+    private:
+        friend class attribute_range;
+
+        const tile *of_ = nullptr;
+        std::span<const mvt_span> keys_;
+        std::span<const mvt_value> values_;
+        const std::uint32_t *tag_ = nullptr;
+    };
+
+    attribute_range() noexcept = default;
+
+    [[nodiscard]] iterator begin() const noexcept { return begin_; }
+    [[nodiscard]] iterator end() const noexcept {
+        iterator end = begin_;
+        end.tag_ += 2 * size_;
+        return end;
+    }
+    [[nodiscard]] std::size_t size() const noexcept { return size_; }
+    [[nodiscard]] bool empty() const noexcept { return size_ == 0; }
+
+private:
+    friend class tile;
+
+    attribute_range(const tile &of, const mvt_layer &layer, const mvt_feature &feature) {
+        const auto tags = tile::part(of.rows_.tags, of.rows_.tag_count, feature.tags);
+        begin_.of_ = &of;
+        begin_.keys_ = tile::part(of.rows_.keys, of.rows_.key_count, layer.keys);
+        begin_.values_ = tile::part(of.rows_.values, of.rows_.value_count, layer.values);
+        begin_.tag_ = tags.data();
+        size_ = tags.size() / 2;
+    }
+
+    iterator begin_;
+    std::size_t size_ = 0;
+};
+
+inline attribute_range tile::attributes(const mvt_layer &layer, const mvt_feature &feature) const & {
+    return {*this, layer, feature};
+}
+
+template <class Visit>
+void tile::attributes(const mvt_layer &layer, const mvt_feature &feature, Visit visit) const & {
+    for (const auto &[key, value] : attributes(layer, feature)) visit(key, value);
+}
+
+inline std::optional<value> tile::attribute(const mvt_layer &layer, const mvt_feature &feature, text_input key) const & {
+    const auto all = attributes(layer, feature);
+    const auto at = std::ranges::find_if(all, [&](const auto &it) { return it.first == key.view(); });
+    if (at == all.end()) return std::nullopt;
+    return (*at).second;
+}
 
 /// A tile as rows, whose lists have at most `most` bytes; beyond that it throws bad_alloc. Throws refused.
 [[nodiscard]] inline tile read(input of, std::uint64_t most = UINT64_MAX) {
@@ -509,6 +600,8 @@ template <std::ranges::input_range Names>
     return bytes::adopt(out);
 }
 
+inline bool operator==(const tile &one, const tile &other) { return write(one.rows_) == write(other.rows_); }
+
 /// A tile as one line of JSON, without a line end. Throws refused.
 [[nodiscard]] inline bytes json(input of) { return detail::made(of, mvt_json); }
 
@@ -610,6 +703,7 @@ public:
     builder &points(std::span<const mvt_point> points) {
         return done(mvt_builder_points(&held_, points.data(), points.size()));
     }
+    builder &points(std::initializer_list<mvt_point> points) { return this->points(std::span(points.begin(), points.size())); }
     /// Adds integers to a feature of unknown geometry.
     builder &integers(std::span<const std::uint32_t> integers) {
         return done(mvt_builder_integers(&held_, integers.data(), integers.size()));

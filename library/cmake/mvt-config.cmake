@@ -17,6 +17,9 @@ foreach(kind SHARED STATIC)
     add_library(${_mvt_target} ${kind} IMPORTED)
     set_target_properties(${_mvt_target} PROPERTIES IMPORTED_LOCATION "${mvt_${kind}_LIBRARY}"
                           INTERFACE_INCLUDE_DIRECTORIES "${mvt_INCLUDE_DIR}")
+    if(CMAKE_CXX_COMPILER_LOADED) # mvt.hpp
+      set_target_properties(${_mvt_target} PROPERTIES INTERFACE_COMPILE_FEATURES cxx_std_20)
+    endif()
   endif()
 endforeach()
 if(NOT TARGET mvt::mvt)

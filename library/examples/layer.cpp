@@ -50,13 +50,13 @@ private:
         if (feature.has_id) out_ << "\"id\":" << feature.id << ',';
         out_ << "\"properties\":{";
         const char *between = "";
-        tile_.attributes(layer_, feature, [&](std::string_view key, const mvt::value &value) {
+        for (const auto &[key, value] : tile_.attributes(layer_, feature)) {
             out_ << between;
             text(key);
             out_ << ':';
             std::visit([&](const auto &it) { write(it); }, value);
             between = ",";
-        });
+        }
         out_ << "},\"geometry\":";
         geometry(feature);
         out_ << '}';

@@ -38,10 +38,12 @@ inline std::size_t use(const std::string &of, const mvt_tile &mine, const mvt_by
     mvt::builder().layer("a").feature(MVT_POINTS).tag("k", nullptr);
 #elif CASE == 13 // a null pointer as a name
     mvt::builder().layer(nullptr);
-#elif CASE == 14 // bytes that are gone: clang alone tells
+#elif CASE == 14 // a range of attributes of a tile that is gone
+    for (auto [key, value] : mvt::read(of).attributes(tile.layers()[0], tile.features(tile.layers()[0])[0])) sum += key.size();
+#elif CASE == 15 // bytes that are gone: clang alone tells
     const mvt::input kept = std::string("gone");
     sum += kept.size();
-#elif CASE == 15 // the same, in a vector
+#elif CASE == 16 // the same, in a vector
     const mvt::input kept{std::vector<char>(3)};
     sum += kept.size();
 #endif

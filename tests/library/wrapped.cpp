@@ -8,6 +8,7 @@
 #include <algorithm>
 #include <iostream>
 #include <iterator>
+#include <limits>
 #include <string>
 #include <thread>
 #include <vector>
@@ -132,10 +133,13 @@ void mix(mvt::byte_span input) {
     require_error([&] { static_cast<void>(two.text(last.name)); }, "a text of another tile");
     const auto ignore = [](std::string_view, const mvt::value &) {};
     require_error([&] { two.attributes(last, feature, ignore); }, "attributes of another tile");
+    require_error([&] { static_cast<void>(two.attributes(last, feature)); }, "a range of another tile");
+    require_error([&] { static_cast<void>(two.attribute(last, feature, "k")); }, "an attribute of another tile");
     // Its tags are this tile's, and lead beyond the keys that the layer has here.
     mvt_layer bare = one.layers().front();
     bare.keys.len = 0;
     require_error([&] { one.attributes(bare, one.features(bare).front(), ignore); }, "keys that the layer hasn't");
+    require_error([&] { static_cast<void>(*one.attributes(bare, one.features(bare).front()).begin()); }, "a range beyond the keys");
 
     mvt::tile moved = mvt::read(input);
     const mvt_layer layer = moved.layers().front();
@@ -233,9 +237,50 @@ void kinds(mvt::byte_span input) {
     const mvt::tile tile = mvt::read(input);
     const mvt_layer &layer = tile.layers()[0];
     builder.layer("a").feature(MVT_POINTS).point(25, 17);
-    tile.attributes(layer, tile.features(layer)[0],
-                    [&](std::string_view key, const mvt::value &it) { builder.tag(std::string(key), it); });
+    for (const auto &[key, value] : tile.attributes(layer, tile.features(layer)[0])) builder.tag(key, value);
     require(std::ranges::equal(builder.finish(), input), "what was read is built as something else");
+}
+
+static_assert(std::ranges::forward_range<mvt::attribute_range> && std::ranges::view<mvt::attribute_range>);
+
+/// Attributes are a range that the callback and the search agree with.
+void range() {
+    mvt::builder builder;
+    builder.layer("a").feature(MVT_POINTS).tag("one", 1).tag("two", "2").tag("three", -3).points({{1, 2}, {3, 4}});
+    builder.feature(MVT_POINTS).points({{5, 6}});
+    const mvt::bytes made = builder.finish();
+    const mvt::tile tile = mvt::read(made);
+    const mvt_layer &layer = tile.layers()[0];
+    const auto features = tile.features(layer);
+    const mvt::attribute_range all = tile.attributes(layer, features[0]);
+    std::vector<std::string> keys;
+    for (auto [key, value] : all) keys.emplace_back(key);
+    require(keys == std::vector<std::string>{"one", "two", "three"} && all.size() == 3, "other attributes in a range");
+    require(std::ranges::distance(all | std::views::filter([](const auto &it) { return it.first != "two"; })) == 2,
+            "a range that isn't filtered");
+    require(tile.attributes(layer, features[1]).empty(), "attributes that the feature hasn't");
+    require(tile.attribute(layer, features[0], "two") == mvt::value("2"), "another value of a key");
+    require(tile.attribute(layer, features[0], "three") == mvt::value(mvt::sint_value(-3)), "another number of a key");
+    require(!tile.attribute(layer, features[0], "four") && !tile.attribute(layer, features[1], "one"), "a value of no key");
+    const auto points = tile.points(tile.parts(features[0])[0]);
+    require(points.size() == 2 && points[1].x == 3 && points[1].y == 4, "other points of a list");
+}
+
+/// Tiles are equal whose canonical bytes are, whatever keys their layers have beside.
+void equal() {
+    const auto made = [](double number, int x) {
+        mvt::builder builder;
+        builder.layer("a").feature(MVT_POINTS).tag("k", number).points({{x, 2}});
+        return mvt::read(builder.finish());
+    };
+    require(made(1, 1) == made(1, 1) && made(1, 1) != made(2, 1) && made(1, 1) != made(1, 2), "tiles that equal others");
+    require(made(0.0, 1) != made(-0.0, 1), "numbers of other bits");
+    const double none = std::numeric_limits<double>::quiet_NaN();
+    require(made(none, 1) == made(none, 1) && mvt::tile() == mvt::read({}), "tiles that don't equal themselves");
+    // The layer `a` with the point (25, 17), and the same with a key that no feature uses.
+    const std::string bare("\x1a\x11\x78\x02\x0a\x01" "a\x12\x07\x18\x01\x22\x03\x09\x32\x22\x28\x80\x20", 19);
+    const std::string keyed("\x1a\x14\x78\x02\x0a\x01" "a\x12\x07\x18\x01\x22\x03\x09\x32\x22\x1a\x01" "k\x28\x80\x20", 22);
+    require(mvt::read(bare) == mvt::read(keyed), "a key that nothing names");
 }
 
 /// Views and attributes lie within the tile, and values have the kinds of their rows.
@@ -322,7 +367,7 @@ void call(const std::string &command, const std::vector<std::string_view> &names
     if (command == "lend") return lend();
     if (command == "mix") return mix(input);
     if (command == "explain") return explain();
-    if (command == "build") return build();
+    if (command == "build") return build(), range(), equal();
     if (command == "kinds") return kinds(input);
     if (command == "pieces") return pieces(input);
     if (command == "write") return write(input);
