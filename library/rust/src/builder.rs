@@ -4,7 +4,7 @@ use crate::calls::{no_bytes, no_fault, written};
 use crate::error::error_of;
 use crate::output::lent;
 use crate::tile::no_rows;
-use crate::{sys, Bytes, Error, Kind, Point, Value};
+use crate::{sys, Bytes, Error, Kind, Point, ToValue, Value};
 
 /// Makes a tile step by step: begin a layer, begin a feature, add its tags and points, and finish.
 ///
@@ -72,11 +72,11 @@ impl Builder {
     /// # Errors
     ///
     /// [`Error::OutOfTurn`], [`Error::OutOfMemory`].
-    pub fn value<'v>(&mut self, value: impl Into<Value<'v>>) -> Result<u32, Error> {
+    pub fn value(&mut self, value: impl ToValue) -> Result<u32, Error> {
         let mut index = 0;
+        let given = any_of(value.to_value());
         // SAFETY: the value's text is lent for the call.
-        let status =
-            unsafe { sys::mvt_builder_value(&mut self.0, any_of(value.into()), &mut index) };
+        let status = unsafe { sys::mvt_builder_value(&mut self.0, given, &mut index) };
         index_of(status, index)
     }
 
@@ -95,9 +95,10 @@ impl Builder {
     }
 
     /// Adds an attribute to the feature. A whole number is a uint or, below zero, a sint; a [`Value`] is of its own kind.
-    pub fn tag<'v>(&mut self, key: &str, value: impl Into<Value<'v>>) -> &mut Self {
+    pub fn tag(&mut self, key: &str, value: impl ToValue) -> &mut Self {
+        let given = any_of(value.to_value());
         // SAFETY: the texts are lent for the call.
-        unsafe { sys::mvt_builder_tag(&mut self.0, lent(key.as_bytes()), any_of(value.into())) };
+        unsafe { sys::mvt_builder_tag(&mut self.0, lent(key.as_bytes()), given) };
         self
     }
 

@@ -8,7 +8,8 @@ use std::fmt;
 use std::ops::Range;
 use std::os::raw::c_char;
 
-/// Why a call made nothing.
+/// Why a call made nothing. Of refused bytes `Display` says the line that the program `mvt` prints, and the fault in plain
+/// words.
 #[derive(Clone, Debug, PartialEq, Eq)]
 #[non_exhaustive]
 pub enum Error {
@@ -30,7 +31,7 @@ pub enum Error {
 
 /// The first rule that a tile breaks.
 ///
-/// `Display` says it in the line that the program `mvt` prints.
+/// `Display` says it in the line that the program `mvt` prints, without the explanation.
 #[derive(Clone, Debug, PartialEq, Eq)]
 pub struct Refused {
     /// The index of the layer; `None` for a fault of a top-level field's own spelling.
@@ -78,7 +79,7 @@ impl Error {
 impl fmt::Display for Error {
     fn fmt(&self, f: &mut fmt::Formatter<'_>) -> fmt::Result {
         match self {
-            Error::Refused(refused) => refused.fmt(f),
+            Error::Refused(refused) => write!(f, "{refused}: {}", refused.explanation),
             Error::OutOfMemory => f.write_str("out of memory"),
             Error::TooLarge => f.write_str("the result is larger than 67108864 bytes"),
             Error::NoLayer(name) => write!(f, "no layer of version 2 has the name {name:?}"),

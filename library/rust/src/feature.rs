@@ -26,11 +26,19 @@ impl<'t> Iterator for Features<'t> {
     }
 }
 
+impl DoubleEndedIterator for Features<'_> {
+    fn next_back(&mut self) -> Option<Self::Item> {
+        let layer = self.layer;
+        self.rows.next_back().map(|row| Feature { layer, row })
+    }
+}
+
 impl ExactSizeIterator for Features<'_> {}
 
 impl iter::FusedIterator for Features<'_> {}
 
-/// A feature.
+/// A feature. It equals another that has the same id, kind, geometry and attributes in the same order, where numbers are the
+/// same if their bits are: a NaN equals itself, and 0.0 isn't -0.0.
 #[derive(Clone, Copy)]
 pub struct Feature<'t> {
     layer: Layer<'t>,
@@ -97,6 +105,21 @@ impl<'t> Feature<'t> {
     }
 }
 
+impl PartialEq for Feature<'_> {
+    fn eq(&self, other: &Self) -> bool {
+        let is_same = |((key, value), (name, there)): ((&str, Value<'_>), (&str, Value<'_>))| {
+            key == name && value.is_same(&there)
+        };
+        (self.id(), self.kind()) == (other.id(), other.kind())
+            && self.integers() == other.integers()
+            && self.parts().eq(other.parts())
+            && self.tags().len() == other.tags().len()
+            && self.attributes().zip(other.attributes()).all(is_same)
+    }
+}
+
+impl Eq for Feature<'_> {}
+
 impl fmt::Debug for Feature<'_> {
     fn fmt(&self, f: &mut fmt::Formatter<'_>) -> fmt::Result {
         let mut shown = f.debug_struct("Feature");
@@ -122,10 +145,7 @@ impl<'t> Iterator for Attributes<'t> {
     type Item = (&'t str, Value<'t>);
 
     fn next(&mut self) -> Option<Self::Item> {
-        let (layer, tag) = (self.layer, self.tags.next()?);
-        let key = layer.key_spans()[tag[0] as usize];
-        let value = &layer.value_rows()[tag[1] as usize];
-        Some((layer.tile.text(key), Value::of(layer.tile, value)))
+        self.tags.next().map(|tag| self.layer.attribute(tag))
     }
 
     fn size_hint(&self) -> (usize, Option<usize>) {
@@ -133,4 +153,12 @@ impl<'t> Iterator for Attributes<'t> {
     }
 }
 
+impl DoubleEndedIterator for Attributes<'_> {
+    fn next_back(&mut self) -> Option<Self::Item> {
+        self.tags.next_back().map(|tag| self.layer.attribute(tag))
+    }
+}
+
 impl ExactSizeIterator for Attributes<'_> {}
+
+impl iter::FusedIterator for Attributes<'_> {}

@@ -3,6 +3,7 @@
 use crate::output::list;
 use crate::tile::within;
 use crate::{sys, Tile};
+use std::hash::{Hash, Hasher};
 use std::{fmt, iter, slice};
 
 /// What a feature's geometry is.
@@ -29,14 +30,7 @@ impl<'t> Iterator for Parts<'t> {
     type Item = Part<'t>;
 
     fn next(&mut self) -> Option<Part<'t>> {
-        let rows = self.tile.rows();
-        let part = self.rows.next()?;
-        // SAFETY: the rows live as long as the tile.
-        let points = within(unsafe { list(rows.points, rows.point_count) }, part.points);
-        Some(Part {
-            is_exterior: part.exterior == 1,
-            points,
-        })
+        self.rows.next().map(|row| Part::of(self.tile, row))
     }
 
     fn size_hint(&self) -> (usize, Option<usize>) {
@@ -44,7 +38,15 @@ impl<'t> Iterator for Parts<'t> {
     }
 }
 
+impl DoubleEndedIterator for Parts<'_> {
+    fn next_back(&mut self) -> Option<Self::Item> {
+        self.rows.next_back().map(|row| Part::of(self.tile, row))
+    }
+}
+
 impl ExactSizeIterator for Parts<'_> {}
+
+impl iter::FusedIterator for Parts<'_> {}
 
 /// A line, a ring, or the points of a feature. A ring closes from its last point to its first.
 #[derive(Clone, Copy, Debug, PartialEq, Eq)]
@@ -53,6 +55,17 @@ pub struct Part<'t> {
     pub is_exterior: bool,
     /// The points.
     pub points: &'t [Point],
+}
+
+impl<'t> Part<'t> {
+    fn of(tile: &'t Tile, row: &sys::Part) -> Self {
+        // SAFETY: the rows live as long as the tile.
+        let points = unsafe { list(tile.rows().points, tile.rows().point_count) };
+        Part {
+            is_exterior: row.exterior == 1,
+            points: within(points, row.points),
+        }
+    }
 }
 
 /// A position: x to the right, y down, in units of the layer's extent.
@@ -79,4 +92,14 @@ impl PartialEq for Point {
 
 impl Eq for Point {}
 
-impl iter::FusedIterator for Parts<'_> {}
+impl Hash for Point {
+    fn hash<H: Hasher>(&self, state: &mut H) {
+        (self.x, self.y).hash(state);
+    }
+}
+
+impl From<(i32, i32)> for Point {
+    fn from((x, y): (i32, i32)) -> Self {
+        Point::new(x, y)
+    }
+}

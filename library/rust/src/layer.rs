@@ -1,6 +1,6 @@
 //! The layers of a tile.
 
-use crate::feature::Features;
+use crate::feature::{Feature, Features};
 use crate::output::list;
 use crate::tile::within;
 use crate::{sys, Tile, Value};
@@ -26,11 +26,19 @@ impl<'t> Iterator for Layers<'t> {
     }
 }
 
+impl DoubleEndedIterator for Layers<'_> {
+    fn next_back(&mut self) -> Option<Self::Item> {
+        let tile = self.tile;
+        self.rows.next_back().map(|row| Layer { tile, row })
+    }
+}
+
 impl ExactSizeIterator for Layers<'_> {}
 
 impl iter::FusedIterator for Layers<'_> {}
 
-/// A layer. One of version 2 has a name, an extent and features; one of another version has its bytes.
+/// A layer. One of version 2 has a name, an extent and features; one of another version has its bytes. Layers are equal whose
+/// features are; keys and values that no feature uses don't count.
 #[derive(Clone, Copy)]
 pub struct Layer<'t> {
     pub(crate) tile: &'t Tile,
@@ -91,12 +99,48 @@ impl<'t> Layer<'t> {
         )
     }
 
+    /// What a pair of indices of a key and a value stands for.
+    pub(crate) fn attribute(&self, tag: &[u32]) -> (&'t str, Value<'t>) {
+        let key = self.key_spans()[tag[0] as usize];
+        let value = &self.value_rows()[tag[1] as usize];
+        (self.tile.text(key), Value::of(self.tile, value))
+    }
+
     pub(crate) fn value_rows(&self) -> &'t [sys::Value] {
         // SAFETY: the rows live as long as the tile.
         within(
             unsafe { list(self.tile.rows().values, self.tile.rows().value_count) },
             self.row.values,
         )
+    }
+}
+
+impl PartialEq for Layer<'_> {
+    fn eq(&self, other: &Self) -> bool {
+        (self.version(), self.name(), self.extent())
+            == (other.version(), other.name(), other.extent())
+            && self.bytes() == other.bytes()
+            && self.features().eq(other.features())
+    }
+}
+
+impl Eq for Layer<'_> {}
+
+impl<'t> IntoIterator for Layer<'t> {
+    type Item = Feature<'t>;
+    type IntoIter = Features<'t>;
+
+    fn into_iter(self) -> Features<'t> {
+        self.features()
+    }
+}
+
+impl<'t> IntoIterator for &Layer<'t> {
+    type Item = Feature<'t>;
+    type IntoIter = Features<'t>;
+
+    fn into_iter(self) -> Features<'t> {
+        self.features()
     }
 }
 

@@ -49,4 +49,4 @@ pub use geometry::{Kind, Part, Parts, Point};
 pub use layer::{Layer, Layers};
 pub use output::Bytes;
 pub use tile::Tile;
-pub use value::Value;
+pub use value::{ToValue, Value};

@@ -5,6 +5,7 @@ use crate::error::error_of;
 use crate::layer::{Layer, Layers};
 use crate::output::list;
 use crate::{sys, Error};
+use std::sync::Arc;
 use std::{fmt, ptr, str};
 
 /// A tile that was read. It owns its rows; layers, features, attributes and points are views of these, which last as long as
@@ -14,11 +15,17 @@ use std::{fmt, ptr, str};
 /// let layers = mvt::read(&[]).unwrap().layers(); // give the tile a name first
 /// println!("{}", layers.len());
 /// ```
-pub struct Tile(sys::Tile);
+///
+/// A clone shares the rows, which nothing changes. Tiles are equal whose layers are.
+#[derive(Clone)]
+pub struct Tile(Arc<Rows>);
+
+/// Rows that the library made, and that are given back.
+struct Rows(sys::Tile);
 
 // SAFETY: the rows are this value's alone, and are never changed.
-unsafe impl Send for Tile {}
-unsafe impl Sync for Tile {}
+unsafe impl Send for Rows {}
+unsafe impl Sync for Rows {}
 
 impl Tile {
     /// What a call puts into its rows, or what its status means. The bytes are those that the call takes.
@@ -28,14 +35,14 @@ impl Tile {
     ) -> Result<Tile, Error> {
         let (mut rows, mut fault) = (no_rows(), no_fault());
         match call(&mut rows, &mut fault) {
-            sys::OK => Ok(Tile(rows)),
+            sys::OK => Ok(Tile(Arc::new(Rows(rows)))),
             // SAFETY: the fault is filled where the bytes are refused.
             status => Err(unsafe { error_of(status, bytes, &fault) }),
         }
     }
 
     pub(crate) fn rows(&self) -> &sys::Tile {
-        &self.0
+        &self.0 .0
     }
 
     /// The layers, in order, those of other versions among them.
@@ -43,7 +50,7 @@ impl Tile {
         // SAFETY: the rows live as long as the tile.
         Layers {
             tile: self,
-            rows: unsafe { list(self.0.layers, self.0.layer_count) }.iter(),
+            rows: unsafe { list(self.rows().layers, self.rows().layer_count) }.iter(),
         }
     }
 
@@ -60,16 +67,27 @@ impl Tile {
 
     pub(crate) fn bytes(&self, span: sys::Span) -> &[u8] {
         // SAFETY: the rows live as long as the tile.
-        within(unsafe { list(self.0.texts, self.0.text_len) }, span)
+        within(
+            unsafe { list(self.rows().texts, self.rows().text_len) },
+            span,
+        )
     }
 }
 
-impl Drop for Tile {
+impl Drop for Rows {
     fn drop(&mut self) {
         // SAFETY: the library made the rows, and they are given back once.
         unsafe { sys::mvt_tile_free(&mut self.0) }
     }
 }
+
+impl PartialEq for Tile {
+    fn eq(&self, other: &Self) -> bool {
+        self.layers().eq(other.layers())
+    }
+}
+
+impl Eq for Tile {}
 
 impl fmt::Debug for Tile {
     fn fmt(&self, f: &mut fmt::Formatter<'_>) -> fmt::Result {

@@ -1,6 +1,7 @@
 //! What an attribute has.
 
 use crate::{sys, Tile};
+use std::borrow::Cow;
 use std::fmt;
 
 /// A value of an attribute.
@@ -32,6 +33,17 @@ impl<'t> Value<'t> {
             sys::SINT => Value::Sint(row.bits as i64),
             sys::BOOL => Value::Bool(row.bits == 1),
             _ => Value::Text(tile.text(row.text)),
+        }
+    }
+}
+
+impl Value<'_> {
+    /// Whether kind and bits are the same, which `==` doesn't say of floats.
+    pub(crate) fn is_same(&self, other: &Self) -> bool {
+        match (self, other) {
+            (Value::Float(one), Value::Float(other)) => one.to_bits() == other.to_bits(),
+            (Value::Double(one), Value::Double(other)) => one.to_bits() == other.to_bits(),
+            _ => self == other,
         }
     }
 }
@@ -81,3 +93,50 @@ impl<'t> From<&'t str> for Value<'t> {
         Value::Text(text)
     }
 }
+
+impl<'t> From<&'t String> for Value<'t> {
+    fn from(text: &'t String) -> Self {
+        Value::Text(text)
+    }
+}
+
+/// What a builder takes as a value: a text that is borrowed or owned, a truth, a number, or a [`Value`].
+///
+/// ```
+/// let name = String::from("Mill Pond");
+/// let mut builder = mvt::Builder::new();
+/// builder.layer("water", 4096).feature(mvt::Kind::Points).point(25, 17);
+/// builder.tag("name", &name).tag("also", name).tag("boats", 3_usize).tag("depth", mvt::Value::Int(5));
+/// # builder.finish()?;
+/// # Ok::<(), mvt::Error>(())
+/// ```
+pub trait ToValue {
+    /// The value, with the text lent.
+    fn to_value(&self) -> Value<'_>;
+}
+
+impl<T: ToValue + ?Sized> ToValue for &T {
+    fn to_value(&self) -> Value<'_> {
+        (**self).to_value()
+    }
+}
+
+macro_rules! to_value {
+    (texts: $($text:ty),*; others: $($other:ty),*) => {
+        $(impl ToValue for $text {
+            fn to_value(&self) -> Value<'_> {
+                Value::Text(self)
+            }
+        })*
+        $(impl ToValue for $other {
+            fn to_value(&self) -> Value<'_> {
+                Value::from(*self)
+            }
+        })*
+    };
+}
+
+to_value!(
+    texts: str, String, Box<str>, Cow<'_, str>;
+    others: Value<'_>, f32, f64, bool, i8, i16, i32, i64, isize, u8, u16, u32, u64, usize
+);

@@ -2,6 +2,7 @@
 //! the folder of the tiles (MVT_TILES).
 
 use mvt::{Builder, Error, Kind, Point, Value};
+use std::collections::HashSet;
 use std::ffi::OsStr;
 use std::path::PathBuf;
 use std::process::{Command, Output, Stdio};
@@ -102,9 +103,13 @@ fn explained(path: &str, fault: &mvt::Refused) {
 
 fn refused(path: &str, bytes: &[u8], check: &Output, error: &Error) {
     assert_eq!(check.status.code(), Some(1), "{path}");
-    assert_eq!(format!("{error}\n").as_bytes(), check.stderr, "{path}");
+    let line = str::from_utf8(&check.stderr).unwrap().trim_end();
     match error {
-        Error::Refused(fault) => explained(path, fault),
+        Error::Refused(fault) => {
+            assert_eq!(fault.to_string(), line, "{path}");
+            assert_eq!(error.to_string(), format!("{line}: {}", fault.explanation));
+            explained(path, fault);
+        }
         other => panic!("{path}: {other}"),
     }
     for other in [
@@ -117,9 +122,9 @@ fn refused(path: &str, bytes: &[u8], check: &Output, error: &Error) {
     }
     let mut decoder = mvt::Decoder::new().unwrap();
     let told = io::copy(&mut &bytes[..], &mut decoder).map_err(|error| error.to_string());
-    let last = decoder.finish().unwrap_err();
-    assert_eq!(last.to_string(), error.to_string(), "{path}");
-    assert!(told.is_ok() || told == Err(error.to_string()), "{path}");
+    let last = decoder.finish().unwrap_err().to_string();
+    assert!(last.starts_with(&format!("{line}: ")), "{path}: {last}");
+    assert!(told.is_ok() || told == Err(last), "{path}");
 }
 
 /// A tile of three layers: a feature with each kind of value, a ring and integers, and bytes of version 1.
@@ -150,7 +155,7 @@ fn layers_and_attributes() {
         .map(|layer| (layer.version(), layer.name(), layer.extent()))
         .collect();
     assert_eq!(names, [(2, "places", 512), (2, "water", 4096), (1, "", 0)]);
-    assert_eq!(tile.layers().last().unwrap().bytes(), [0x78, 0x01]);
+    assert_eq!(tile.layers().next_back().unwrap().bytes(), [0x78, 0x01]);
     let place = tile.layer("places").unwrap().features().next().unwrap();
     assert_eq!((place.id(), place.kind()), (Some(7), Kind::Points));
     let wanted = [
@@ -211,6 +216,87 @@ fn whole_numbers_of_each_type() {
     assert!(small.iter().chain(&large).all(|it| *it == Value::Uint(7)));
     assert_eq!(Value::from(i64::MIN), Value::Sint(i64::MIN));
     assert_eq!(Value::from(u64::MAX), Value::Uint(u64::MAX));
+}
+
+#[test]
+fn texts_that_are_lent_or_owned() {
+    let owned = String::from("x");
+    let mut builder = Builder::new();
+    builder.layer("a", 4096).feature(Kind::Points).point(1, 1);
+    builder.tag("lent", &owned).tag("str", owned.as_str());
+    builder.tag("boxed", owned.clone().into_boxed_str());
+    builder.tag("cow", String::from_utf8_lossy(b"x"));
+    builder
+        .tag("value", Value::from(&owned))
+        .tag("owned", owned);
+    let tile = mvt::read(&builder.finish().unwrap()).unwrap();
+    let layer = tile.layer("a").unwrap();
+    assert_eq!(layer.values().collect::<Vec<_>>(), [Value::Text("x")]);
+    assert_eq!(layer.keys().len(), 6);
+}
+
+#[test]
+fn lists_from_both_ends() {
+    let tile = mvt::read(&made()).unwrap();
+    let mut versions: Vec<_> = tile.layers().rev().map(|layer| layer.version()).collect();
+    assert_eq!(versions, [1, 2, 2]);
+    versions.clear();
+    for layer in &tile {
+        for feature in &layer {
+            versions.push(feature.kind() as u32);
+        }
+    }
+    assert_eq!(versions, [1, 3, 0]);
+    let water = tile.layer("water").unwrap();
+    assert_eq!(water.into_iter().next_back().unwrap().integers(), [7, 9]);
+    let place = tile.layer("places").unwrap().features().next_back();
+    let keys = place.unwrap().attributes().rev().map(|(key, _)| key);
+    assert_eq!(
+        keys.collect::<Vec<_>>(),
+        ["s", "f", "i", "n", "deep", "depth", "name"]
+    );
+    assert!(place.unwrap().parts().rev().eq(place.unwrap().parts()));
+}
+
+/// A tile of a feature with a number, and the keys and values that no feature uses.
+fn numbered(number: f64, unused: &str) -> mvt::Tile {
+    let mut builder = Builder::new();
+    builder.layer("a", 4096);
+    let (key, value) = (builder.key("k").unwrap(), builder.value(number).unwrap());
+    builder.key(unused).unwrap();
+    builder.feature(Kind::Points).tag_at(key, value);
+    builder.points(&[(25, 17).into()]);
+    mvt::read(&builder.finish().unwrap()).unwrap()
+}
+
+#[test]
+fn tiles_that_are_equal() {
+    assert_eq!(numbered(f64::NAN, "x"), numbered(f64::NAN, "y"));
+    assert_ne!(numbered(0.0, "x"), numbered(-0.0, "x"));
+    assert_ne!(numbered(1.0, "x"), mvt::read(&made()).unwrap());
+    let tile = mvt::read(&made()).unwrap();
+    let twin = tile.clone();
+    assert_eq!(tile.layer("places"), twin.layer("places"));
+    assert_ne!(tile.layer("places"), twin.layer("water"));
+    drop(tile);
+    assert_eq!(mvt::write(&twin).unwrap(), made());
+    // The layer `a` with the point (25, 17), and the same with a key that no feature uses.
+    let bare = b"\x1a\x11\x78\x02\x0a\x01a\x12\x07\x18\x01\x22\x03\x09\x32\x22\x28\x80\x20";
+    let keyed =
+        b"\x1a\x14\x78\x02\x0a\x01a\x12\x07\x18\x01\x22\x03\x09\x32\x22\x1a\x01k\x28\x80\x20";
+    assert_eq!(mvt::read(bare).unwrap(), mvt::read(keyed).unwrap());
+}
+
+#[test]
+fn points_as_keys() {
+    let points: HashSet<Point> = [(1, 2), (3, 4), (1, 2)].map(Point::from).into();
+    assert_eq!(points.len(), 2);
+}
+
+#[test]
+fn what_looks_compressed_is_said() {
+    let told = mvt::read(&[0x1f, 0x8b, 8, 0]).unwrap_err().to_string();
+    assert!(told.contains("gzip") && !told.contains('\n'), "{told}");
 }
 
 #[test]
