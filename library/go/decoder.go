@@ -93,7 +93,7 @@ func (d *Decoder) Write(piece []byte) (int, error) {
 // then.
 func ofFront(err error) error {
 	if told, ok := err.(*Refused); ok {
-		told.Start, told.End = nil, nil
+		told.start, told.end, told.isPlaced = 0, 0, false
 	}
 	return err
 }

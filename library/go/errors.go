@@ -22,7 +22,7 @@ var (
 	ErrClosed = errors.New("this decoder is finished or closed")
 )
 
-// Refused is the first rule that a tile breaks. Its text is the line that the program mvt prints.
+// Refused is the first rule that a tile breaks. Its text is the line that the program mvt prints, and the explanation.
 type Refused struct {
 	// Layer and Feature are indices; -1 for a fault outside a layer, or outside its features.
 	Layer, Feature int64
@@ -31,19 +31,32 @@ type Refused struct {
 	// Cause is the cause's number, and Name its name.
 	Cause uint32
 	Name  string
-	// LayerName and FeatureID are what the bytes have of these, if they have them.
-	LayerName *string
-	FeatureID *uint64
-	// Start and End are where the bytes begin and end that the fault is about; if both are equal, something is missing
-	// before that byte. They are nil if the tile isn't at hand, as in a decoder.
-	Start, End *uint64
 	// Explanation is the fault in plain words.
 	Explanation string
+
+	layerName      string
+	featureID      uint64
+	start, end     uint64
+	hasName, hasID bool
+	isPlaced       bool
 }
 
-func (r *Refused) Error() string {
+func (r *Refused) Error() string { return r.Line() + ": " + r.Explanation }
+
+// Line is the line that the program mvt prints.
+func (r *Refused) Line() string {
 	return fmt.Sprintf("layer %s feature %s at %d: %d %s", index(r.Layer), index(r.Feature), r.At, r.Cause, r.Name)
 }
+
+// LayerName is the layer's name, and whether the bytes have one.
+func (r *Refused) LayerName() (string, bool) { return r.layerName, r.hasName }
+
+// FeatureID is the feature's id, and whether the bytes have one.
+func (r *Refused) FeatureID() (uint64, bool) { return r.featureID, r.hasID }
+
+// Place is where the bytes begin and end that the fault is about; if both are equal, something is missing before that byte.
+// It isn't known if the tile isn't at hand, as in a decoder.
+func (r *Refused) Place() (start, end uint64, known bool) { return r.start, r.end, r.isPlaced }
 
 func index(number int64) string {
 	if number < 0 {
@@ -106,17 +119,14 @@ func refusedOf(tile []byte, fault *C.mvt_fault) *Refused {
 		Name:        string(view(fault.name.data, fault.name.len)),
 		Explanation: C.GoString(C.mvt_explain(start(tile), C.size_t(len(tile)), fault)),
 	}
-	if place.has_layer_name == 1 {
-		name := string(view(place.layer_name.data, place.layer_name.len))
-		told.LayerName = &name
+	if told.hasName = place.has_layer_name == 1; told.hasName {
+		told.layerName = string(view(place.layer_name.data, place.layer_name.len))
 	}
-	if place.has_feature_id == 1 {
-		id := uint64(place.feature_id)
-		told.FeatureID = &id
+	if told.hasID = place.has_feature_id == 1; told.hasID {
+		told.featureID = uint64(place.feature_id)
 	}
-	if len(tile) != 0 {
-		begin, end := uint64(place.start), uint64(place.end)
-		told.Start, told.End = &begin, &end
+	if told.isPlaced = len(tile) != 0; told.isPlaced {
+		told.start, told.end = uint64(place.start), uint64(place.end)
 	}
 	return told
 }

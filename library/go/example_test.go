@@ -31,7 +31,7 @@ func ExampleJudge() {
 	err := mvt.Judge([]byte{0x1a, 2, 0x78, 2})
 	var refused *mvt.Refused
 	if errors.As(err, &refused) {
-		fmt.Println(refused)
+		fmt.Println(refused.Line())
 		fmt.Println(refused.Layer, refused.Name)
 	}
 	// Output:

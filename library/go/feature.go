@@ -6,6 +6,7 @@ package mvt
 import "C"
 
 import (
+	"fmt"
 	"runtime"
 	"unsafe"
 )
@@ -22,12 +23,16 @@ const (
 )
 
 func (k Kind) String() string {
-	return [...]string{"unknown", "points", "lines", "polygons"}[k&3]
+	names := [...]string{"unknown", "points", "lines", "polygons"}
+	if int(k) < len(names) {
+		return names[k]
+	}
+	return fmt.Sprintf("kind %d", uint32(k))
 }
 
 // Feature is a feature.
 type Feature struct {
-	layer Layer
+	layer *layerRows
 	row   C.mvt_feature
 }
 
@@ -50,16 +55,39 @@ type Int int64
 // Sint is an integer that a tile holds as a sint_value.
 type Sint int64
 
+// EachAttribute calls yield with each key and its value, in order, until it answers false. It makes nothing for an attribute:
+// the layer's keys and values are made once.
+func (f Feature) EachAttribute(yield func(key string, value any) bool) {
+	defer runtime.KeepAlive(f.layer.tile)
+	keys, values := f.layer.entries()
+	tags := f.tags()
+	for i := 0; i+1 < len(tags) && yield(keys[tags[i]], values[tags[i+1]]); i += 2 {
+	}
+}
+
+// AppendAttributes appends the attributes to a list, which may be that of another feature, cut to nothing.
+func (f Feature) AppendAttributes(to []Attribute) []Attribute {
+	f.EachAttribute(func(key string, value any) bool {
+		to = append(to, Attribute{key, value})
+		return true
+	})
+	return to
+}
+
 // Attributes lists the attributes, in order.
 func (f Feature) Attributes() []Attribute {
-	tile := f.layer.tile
-	defer runtime.KeepAlive(tile)
-	tags, keys, values := f.tags(), f.layer.keySpans(), f.layer.valueRows()
-	attributes := make([]Attribute, 0, len(tags)/2)
-	for i := 0; i+1 < len(tags); i += 2 {
-		attributes = append(attributes, Attribute{tile.text(keys[tags[i]]), tile.value(values[tags[i+1]])})
-	}
-	return attributes
+	return f.AppendAttributes(make([]Attribute, 0, f.row.tags.len/2))
+}
+
+// Attribute is the value of a key, and whether there is one.
+func (f Feature) Attribute(key string) (found any, has bool) {
+	f.EachAttribute(func(name string, value any) bool {
+		if has = name == key; has {
+			found = value
+		}
+		return !has
+	})
+	return found, has
 }
 
 // Tags lists pairs of an index of a key and an index of a value of the layer.
@@ -69,18 +97,8 @@ func (f Feature) Tags() []uint32 {
 }
 
 func (f Feature) tags() []uint32 {
-	rows := f.layer.tile.rows()
+	rows := &f.layer.tile.rows
 	return within(rowsOf((*uint32)(rows.tags), rows.tag_count), f.row.tags)
-}
-
-// Attribute is the value of a key, and whether there is one.
-func (f Feature) Attribute(key string) (any, bool) {
-	for _, attribute := range f.Attributes() {
-		if attribute.Key == key {
-			return attribute.Value, true
-		}
-	}
-	return nil, false
 }
 
 // Point is a position: x to the right, y down, in units of the layer's extent.
@@ -103,9 +121,8 @@ type Part struct {
 
 // Parts lists the lines, the rings, or one part with all points.
 func (f Feature) Parts() []Part {
-	tile := f.layer.tile
-	defer runtime.KeepAlive(tile)
-	all := tile.rows()
+	defer runtime.KeepAlive(f.layer.tile)
+	all := &f.layer.tile.rows
 	points := rowsOf((*Point)(unsafe.Pointer(all.points)), all.point_count)
 	rows := within(rowsOf(all.parts, all.part_count), f.row.parts)
 	parts := make([]Part, 0, len(rows))
@@ -117,9 +134,8 @@ func (f Feature) Parts() []Part {
 
 // Integers are the integers of an unknown geometry.
 func (f Feature) Integers() []uint32 {
-	tile := f.layer.tile
-	defer runtime.KeepAlive(tile)
-	rows := tile.rows()
+	defer runtime.KeepAlive(f.layer.tile)
+	rows := &f.layer.tile.rows
 	integers := rowsOf((*uint32)(rows.integers), rows.integer_count)
 	return append([]uint32(nil), within(integers, f.row.integers)...)
 }

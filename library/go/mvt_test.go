@@ -119,11 +119,13 @@ func good(t *testing.T, path string, tile []byte) {
 func explained(t *testing.T, path string, tile []byte, fault *mvt.Refused) {
 	t.Helper()
 	out, _, _ := told(t, tile, "explain")
-	place := fmt.Sprintf("bytes %d to %d", *fault.Start, *fault.End-1)
-	if *fault.Start == *fault.End {
-		place = fmt.Sprintf("before byte %d", *fault.Start)
-	} else if *fault.Start+1 == *fault.End {
-		place = fmt.Sprintf("byte %d", *fault.Start)
+	start, end, known := fault.Place()
+	same(t, path+" place", known, true)
+	place := fmt.Sprintf("bytes %d to %d", start, end-1)
+	if start == end {
+		place = fmt.Sprintf("before byte %d", start)
+	} else if start+1 == end {
+		place = fmt.Sprintf("byte %d", start)
 	}
 	isPlaced, isSaid := false, false
 	for _, line := range strings.Split(out, "\n") {
@@ -138,12 +140,13 @@ func explained(t *testing.T, path string, tile []byte, fault *mvt.Refused) {
 func refused(t *testing.T, path string, tile []byte, err error) {
 	t.Helper()
 	_, why, status := told(t, tile, "check")
-	same(t, path, err.Error()+"\n", why)
 	same(t, path, status, 1)
 	var fault *mvt.Refused
 	if !errors.As(err, &fault) {
 		t.Fatalf("%s: %v", path, err)
 	}
+	same(t, path, fault.Line()+"\n", why)
+	same(t, path, err.Error(), fault.Line()+": "+fault.Explanation)
 	explained(t, path, tile, fault)
 	for _, call := range []func([]byte) (string, error){mvt.Report, mvt.ToJSON, mvt.ToSVG} {
 		_, other := call(tile)
@@ -152,11 +155,14 @@ func refused(t *testing.T, path string, tile []byte, err error) {
 	_, other := mvt.Read(tile)
 	same(t, path, other, err)
 	decoder, wrong := mvt.NewDecoder()
-	if _, told := io.Copy(must(t, wrong, decoder), iotest.HalfReader(bytes.NewReader(tile))); told != nil {
-		same(t, path, told.Error(), err.Error())
-	}
+	_, told := io.Copy(must(t, wrong, decoder), iotest.HalfReader(bytes.NewReader(tile)))
 	_, other = decoder.Finish()
-	same(t, path, other.Error(), err.Error())
+	if told != nil {
+		same(t, path, told, other)
+	}
+	var last *mvt.Refused
+	same(t, path, errors.As(other, &last), true)
+	same(t, path, last.Line(), fault.Line())
 }
 
 // shown is all of a tile, in words.
@@ -296,8 +302,79 @@ func TestADecoderKnowsWhatLooksCompressed(t *testing.T) {
 	must(t, err, decoder).ReadFrom(strings.NewReader("\x1f\x8b\x08\x00"))
 	_, err = decoder.Finish()
 	var fault *mvt.Refused
-	if !errors.As(err, &fault) || !strings.Contains(fault.Explanation, "gzip") || fault.Start != nil || fault.End != nil {
+	if !errors.As(err, &fault) || !strings.Contains(err.Error(), "gzip") {
 		t.Fatal(err)
+	}
+	_, _, known := fault.Place()
+	same(t, "place", known, false)
+}
+
+// The layer a with a feature of id 7 whose line goes nowhere.
+const nowhere = "\x1a\x13\x78\x02\x0a\x01a\x12\x0c\x08\x07\x18\x02\x22\x06\x09\x00\x00\x0a\x00\x00"
+
+func TestWhatIsKnownOfAFault(t *testing.T) {
+	var fault *mvt.Refused
+	same(t, "refused", errors.As(mvt.Judge([]byte(nowhere)), &fault), true)
+	name, hasName := fault.LayerName()
+	id, hasID := fault.FeatureID()
+	start, end, known := fault.Place()
+	same(t, "known", []any{name, hasName, id, hasID}, []any{"a", true, uint64(7), true})
+	same(t, "place", []any{start, end, known}, []any{uint64(19), uint64(20), true})
+	same(t, "refused", errors.As(mvt.Judge([]byte("\x1f\x8b\x08")), &fault), true)
+	_, hasName = fault.LayerName()
+	_, hasID = fault.FeatureID()
+	same(t, "unknown", []bool{hasName, hasID}, []bool{false, false})
+}
+
+func TestTheNamesOfKinds(t *testing.T) {
+	names := fmt.Sprint(mvt.Unknown, mvt.Points, mvt.Lines, mvt.Polygons, mvt.Kind(5))
+	same(t, "kinds", names, "unknown points lines polygons kind 5")
+}
+
+// A walk over attributes makes nothing for each of them.
+func TestAWalkOverAttributes(t *testing.T) {
+	builder := mvt.NewBuilder().Layer("a", 4096)
+	for number := 0; number < 100; number++ {
+		builder.Feature(mvt.Points).Tag("name", fmt.Sprint("number ", number%7)).Tag("n", 1000+number).Point(1, 1)
+	}
+	made, err := builder.Finish()
+	tile, wrong := mvt.Read(must(t, err, made))
+	layer := must(t, wrong, tile).Layers()[0]
+	features, count := layer.Features(), 0
+	room := make([]mvt.Attribute, 0, 2)
+	allocated := testing.AllocsPerRun(10, func() {
+		for _, feature := range features {
+			feature.EachAttribute(func(key string, value any) bool { count++; return true })
+			room = feature.AppendAttributes(room[:0])
+			feature.Attribute("n")
+		}
+	})
+	same(t, "allocations", allocated, 0.0)
+	same(t, "visited", count, 11*200)
+	same(t, "last", room, []mvt.Attribute{{"name", "number 1"}, {"n", uint64(1099)}})
+	same(t, "list", features[99].Attributes(), room)
+	value, has := features[8].Attribute("name")
+	same(t, "value", []any{value, has}, []any{"number 1", true})
+	_, has = features[8].Attribute("none")
+	same(t, "none", has, false)
+	first := 0
+	features[0].EachAttribute(func(string, any) bool { first++; return false })
+	same(t, "a walk that ends early", first, 1)
+	again, _ := tile.Layer("a")
+	same(t, "keys", again.Keys(), []string{"name", "n"})
+}
+
+// Layers, features and attributes last as long as one of them does, without the tile.
+func TestLayersWithoutTheirTile(t *testing.T) {
+	made, err := mvt.NewBuilder().Layer("a", 4096).Feature(mvt.Points).Tag("k", "v").Point(1, 1).Finish()
+	must(t, err, made)
+	for round := 0; round < 20; round++ {
+		copied := copiedTile(t, made)
+		feature := copied.Layers()[0].Features()[0]
+		copied = mvt.Tile{}
+		runtime.GC()
+		same(t, "attributes", feature.Attributes(), []mvt.Attribute{{"k", "v"}})
+		same(t, "points", feature.Parts()[0].Points, []mvt.Point{{1, 1}})
 	}
 }
 

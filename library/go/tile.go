@@ -8,6 +8,7 @@ import "C"
 import (
 	"math"
 	"runtime"
+	"sync"
 	"unsafe"
 )
 
@@ -15,10 +16,17 @@ import (
 // Close, or when the collector finds that nothing leads to them any more. That may be late, since it doesn't count what
 // the rows take: who reads many tiles closes each. A copy of a Tile shares its rows, and is closed with it.
 type Tile struct {
-	held *tileRows
+	held *opened
 }
 
-// tileRows are the rows that a tile and its copies share.
+// opened is what a tile and its copies share. Its layers don't lead back to it, so that the collector gives all back.
+type opened struct {
+	tile   *tileRows
+	once   sync.Once
+	layers []Layer
+}
+
+// tileRows are the rows of a tile, which its layers share.
 type tileRows struct {
 	rows C.mvt_tile
 }
@@ -30,7 +38,7 @@ func (t *Tile) rows() *C.mvt_tile {
 	if t.held == nil {
 		return &C.mvt_tile{}
 	}
-	return &t.held.rows
+	return &t.held.tile.rows
 }
 
 // Read reads a tile.
@@ -62,8 +70,8 @@ func adopted(status C.mvt_status, tile []byte, rows *C.mvt_tile, fault *C.mvt_fa
 	if err := errorOf(status, tile, fault); err != nil {
 		return nil, err
 	}
-	held := &tileRows{*rows}
-	runtime.SetFinalizer(held, (*tileRows).free)
+	held := &opened{tile: &tileRows{*rows}}
+	runtime.SetFinalizer(held.tile, (*tileRows).free)
 	return &Tile{held}, nil
 }
 
@@ -71,15 +79,15 @@ func adopted(status C.mvt_status, tile []byte, rows *C.mvt_tile, fault *C.mvt_fa
 // any more.
 func (t *Tile) Close() error {
 	if t.held != nil {
-		t.held.free()
-		runtime.SetFinalizer(t.held, nil)
+		t.held.tile.free()
+		runtime.SetFinalizer(t.held.tile, nil)
 	}
 	return nil
 }
 
 // Write gives the canonical bytes of a tile that was read. The error may be ErrTooLarge.
 func (t *Tile) Write() ([]byte, error) {
-	defer runtime.KeepAlive(t)
+	defer runtime.KeepAlive(t.held)
 	return written(t.rows())
 }
 
@@ -95,13 +103,21 @@ func written(rows *C.mvt_tile) ([]byte, error) {
 
 // Layers lists the layers, in order, those of other versions among them.
 func (t *Tile) Layers() []Layer {
-	defer runtime.KeepAlive(t)
-	rows := t.rows()
-	layers := make([]Layer, 0, int(rows.layer_count))
-	for _, row := range rowsOf(rows.layers, rows.layer_count) {
-		layers = append(layers, Layer{t, row})
+	if t.rows().layer_count == 0 {
+		return []Layer{}
 	}
-	return layers
+	return append([]Layer{}, t.held.made()...)
+}
+
+// made are the layers, with the keys and values that they have made.
+func (o *opened) made() []Layer {
+	o.once.Do(func() {
+		defer runtime.KeepAlive(o)
+		for _, row := range rowsOf(o.tile.rows.layers, o.tile.rows.layer_count) {
+			o.layers = append(o.layers, Layer{&layerRows{tile: o.tile, row: row}})
+		}
+	})
+	return o.layers
 }
 
 // Layer is the layer of version 2 of a name, and whether there is one.
@@ -114,13 +130,12 @@ func (t *Tile) Layer(name string) (Layer, bool) {
 	return Layer{}, false
 }
 
-func (t *Tile) text(span C.mvt_span) string {
-	defer runtime.KeepAlive(t)
-	rows := t.rows()
-	return string(within(rowsOf((*byte)(rows.texts), rows.text_len), span))
+func (r *tileRows) text(span C.mvt_span) string {
+	defer runtime.KeepAlive(r)
+	return string(within(rowsOf((*byte)(r.rows.texts), r.rows.text_len), span))
 }
 
-func (t *Tile) value(row C.mvt_value) any {
+func (r *tileRows) value(row C.mvt_value) any {
 	bits := uint64(row.bits)
 	switch row.kind {
 	case C.MVT_FLOAT:
@@ -136,7 +151,7 @@ func (t *Tile) value(row C.mvt_value) any {
 	case C.MVT_BOOL:
 		return bits == 1
 	default:
-		return t.text(row.text)
+		return r.text(row.text)
 	}
 }
 

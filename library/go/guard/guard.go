@@ -81,7 +81,7 @@ func words(err error) string {
 	var other *unfit
 	switch {
 	case errors.As(err, &refused):
-		return fmt.Sprintf("%v\n%s", refused, refused.Explanation)
+		return refused.Line() + "\n" + refused.Explanation
 	case errors.As(err, &other):
 		return other.why
 	}
