@@ -23,7 +23,7 @@ class Places(unittest.TestCase):
                 mvt.judge(tile)
             except mvt.Refused as why:
                 refused += 1
-                fault = places.fault_of(str(why) + "\n")
+                fault = places.fault_of(why.line + "\n")
                 place = places.find(tile[: places.LIMIT + 1], fault)
                 layer_name = None if place.name is None else place.name.decode("utf-8", "replace")
                 told = why.layer_name, why.feature_id, why.start, why.end

@@ -20,6 +20,10 @@ def use(content: bytes) -> List[int]:
     both: List[Union[mvt.Layer, mvt.Foreign]] = list(tile)
     all_versions: List[int] = [layer.version for layer in tile]
     names: List[str] = [layer.name for layer in tile if isinstance(layer, mvt.Layer)]
+    sizes: List[int] = [len(tile), len(tile["water"]), mvt.report(content).layers]
+    ids: List[Optional[int]] = [feature.id for feature in tile["water"]]
+    notes: List[mvt.Note] = mvt.report(content).notes
+    text: str = mvt.report(content)
     found.extent  # type: ignore[union-attr]
     mvt.Feature(None, attributes, "circles", [])  # type: ignore[arg-type]
     mvt.Builder().layer("a").feature("circles")  # type: ignore[arg-type]
@@ -31,4 +35,5 @@ def use(content: bytes) -> List[int]:
         where: Tuple[Optional[int], Optional[int]] = (fault.start, fault.end)
         fault.start + 1  # type: ignore[operator]
         places += [(0, end) for end in where if end is not None]
-    return versions + all_versions + [first.extent, len(places), len(tags), len(kinds), len(both), len(names), len(built)]
+    sizes += [len(ids), len(notes), len(text)]
+    return sizes + versions + all_versions + [first.extent, len(places), len(tags), len(kinds), len(both), len(names), len(built)]

@@ -38,7 +38,6 @@ from ._mvt import (
     judge,
     read,
     read_layer,
-    report,
     rewrite,
     rows,
     to_json,
@@ -46,6 +45,7 @@ from ._mvt import (
     version,
     write,
 )
+from ._report import Note, Report, report
 from ._tiles import Feature, Foreign, Kind, Layer, Point, Tile
 from ._values import Float, Int, Sint, Uint, Value
 from .geojson import MadeLayer, Vanished, from_geojson, to_geojson
@@ -83,11 +83,13 @@ __all__ = [
     "MvtError",
     "NoLayer",
     "NoTile",
+    "Note",
     "OutOfRange",
     "PartRow",
     "Point",
     "PointRow",
     "Refused",
+    "Report",
     "Rows",
     "Sint",
     "Span",

@@ -1,6 +1,5 @@
 """What the calls raise."""
 
-import sys
 from typing import Optional
 
 
@@ -9,13 +8,14 @@ class MvtError(Exception):
 
 
 class Refused(MvtError):
-    """The first rule that a tile breaks.
+    """The first rule that a tile breaks. Its text is `line`, which the program `mvt` prints, and `explanation`, the fault in
+    words.
 
     `layer` and `feature` are indices, or None for a fault outside a layer or a feature. `at` is an offset in the
     tile, or an index in the tags or integers of the feature. `cause` is the cause's number and `name` its name.
     `layer_name` and `feature_id` are None if the bytes don't have them. The fault is about the bytes from `start` up to
     `end`; if both are equal, something is missing before that byte. Both are None if the tile isn't at hand, as in a
-    decoder. `explanation` says the fault in words.
+    decoder.
     """
 
     def __init__(
@@ -36,9 +36,6 @@ class Refused(MvtError):
         self.layer_name, self.feature_id = layer_name, feature_id
         self.start, self.end = start, end
         self.explanation = ": ".join(filter(None, [self._where(), sentence]))
-        # A traceback shows the words below the line, and str() is the line alone.
-        if sys.version_info >= (3, 11) and self.explanation:
-            self.add_note(self.explanation)
 
     def _where(self) -> str:
         """The layer and the feature, where they have a name or an id."""
@@ -49,9 +46,13 @@ class Refused(MvtError):
             told.append("feature with id %d" % self.feature_id)
         return ", ".join(told)
 
-    def __str__(self) -> str:
+    @property
+    def line(self) -> str:
         """The line that the program `mvt` prints."""
         return f"layer {_index(self.layer)} feature {_index(self.feature)} at {self.at}: {self.cause} {self.name}"
+
+    def __str__(self) -> str:
+        return ": ".join(filter(None, [self.line, self.explanation]))
 
 
 class TooLarge(MvtError):

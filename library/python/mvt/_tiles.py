@@ -5,6 +5,7 @@ from typing import Any, ClassVar, Dict, Iterator, List, Literal, Optional, Tuple
 
 from ._errors import NoLayer
 from ._objects import feature_of, geometry_of
+from ._reprs import Brief
 from ._values import Value
 
 Point = Tuple[int, int]
@@ -12,8 +13,8 @@ Kind = Literal["unknown", "points", "lines", "polygons"]
 KINDS: Tuple[Kind, ...] = ("unknown", "points", "lines", "polygons")
 
 
-@dataclass(eq=False)
-class Feature:
+@dataclass(eq=False, repr=False)
+class Feature(Brief):
     """A feature. `kind` says what `geometry` is: integers ("unknown"), points, lines of points, or polygons, each a
     list of rings with the exterior ring first. The last point of a ring is joined to its first."""
 
@@ -44,9 +45,10 @@ def _is_same(one: Value, other: Value) -> bool:
     return one == other or (one != one and other != other)
 
 
-@dataclass
-class Layer:
-    """A layer of version 2. Positions go from 0 to `extent` within the tile: x to the right, y down."""
+@dataclass(repr=False)
+class Layer(Brief):
+    """A layer of version 2. Positions go from 0 to `extent` within the tile: x to the right, y down. `len(layer)` is the
+    number of its features, and `for feature in layer` goes through them."""
 
     version: ClassVar[Literal[2]] = 2
 
@@ -59,19 +61,29 @@ class Layer:
         """Its features as a collection of GeoJSON, in the units of the tile."""
         return {"type": "FeatureCollection", "features": list(map(feature_of, self.features))}
 
+    def __len__(self) -> int:
+        return len(self.features)
 
-@dataclass
-class Foreign:
+    def __bool__(self) -> bool:
+        """A layer without features is a layer."""
+        return True
+
+    def __iter__(self) -> Iterator[Feature]:
+        return iter(self.features)
+
+
+@dataclass(repr=False)
+class Foreign(Brief):
     """A layer of another version than 2, carried as its bytes. Its name isn't known."""
 
     version: int
     bytes: bytes
 
 
-@dataclass
-class Tile:
+@dataclass(repr=False)
+class Tile(Brief):
     """A tile: its layers, in order. `tile["water"]` is the layer of that name, and `"water" in tile` whether there is
-    one."""
+    one. `len(tile)` is the number of its layers, and `for layer in tile` goes through them."""
 
     layers: List[Union[Layer, Foreign]]
 
@@ -91,6 +103,13 @@ class Tile:
 
     def __contains__(self, name: object) -> bool:
         return isinstance(name, str) and self.layer(name) is not None
+
+    def __len__(self) -> int:
+        return len(self.layers)
+
+    def __bool__(self) -> bool:
+        """A tile without layers is a tile."""
+        return True
 
     def __iter__(self) -> Iterator[Union[Layer, Foreign]]:
         return iter(self.layers)

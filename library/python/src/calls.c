@@ -1,6 +1,16 @@
 /* The calls of a tile's bytes, and what a status raises. */
 #include "module.h"
 
+/* Says of what has no bytes that it is a name, if it is one. */
+static void say_if_name(PyObject *given) {
+    PyObject *type, *value, *traceback;
+    PyErr_Fetch(&type, &value, &traceback);
+    const int is_name = PyUnicode_Check(given) || PyObject_HasAttrString(given, "__fspath__");
+    PyErr_Restore(type, value, traceback);
+    if (is_name && PyErr_ExceptionMatches(PyExc_TypeError))
+        PyErr_SetString(PyExc_TypeError, "this takes the bytes of a tile, not its name: open(name, 'rb').read()");
+}
+
 /* The bytes of a tile: these themselves, or a copy of what else holds some, since others may change that meanwhile. */
 PyObject *bytes_of(PyObject *tile) {
     if (PyBytes_Check(tile)) {
@@ -8,6 +18,7 @@ PyObject *bytes_of(PyObject *tile) {
         return tile;
     }
     PyObject *view = PyMemoryView_FromObject(tile);
+    if (view == NULL) say_if_name(tile);
     PyObject *bytes = view == NULL ? NULL : PyBytes_FromObject(view);
     Py_XDECREF(view);
     return bytes;
@@ -131,7 +142,7 @@ static PyObject *made_of(PyObject *module, PyObject *words, PyObject *named, mak
 static PyObject *rewrite(PyObject *module, PyObject *words, PyObject *named) {
     return made_of(module, words, named, mvt_rewrite, as_bytes);
 }
-static PyObject *report(PyObject *module, PyObject *words, PyObject *named) {
+static PyObject *report_lines(PyObject *module, PyObject *words, PyObject *named) {
     return made_of(module, words, named, mvt_report, as_text);
 }
 static PyObject *lint_lines(PyObject *module, PyObject *words, PyObject *named) {
@@ -223,9 +234,7 @@ PyMethodDef CALLS[] = {
      "extract($module, /, tile, names)\n--\n\n"
      "The canonical bytes of the named layers, in the order of the tile.\n\n"
      "A name that stands twice counts once. Raises NoLayer where a name has no layer, Refused and TooLarge."},
-    {"report", WITH_WORDS(report),
-     OF_TILE(report) "What `mvt check` says of a tile: a line of counts, and a line for each thing that is worth a remark. "
-                     "Raises\nRefused."},
+    {"report_lines", WITH_WORDS(report_lines), OF_TILE(report_lines) "What `mvt check` prints of a tile. Raises Refused."},
     {"lint_lines", WITH_WORDS(lint_lines), OF_TILE(lint_lines) "What `mvt lint` prints of a tile. Raises Refused."},
     {"to_json", WITH_WORDS(to_json), OF_TILE(to_json) "A tile as JSON, in one line. Raises Refused."},
     {"to_svg", WITH_WORDS(to_svg), OF_TILE(to_svg) "A picture of a tile in SVG. Raises Refused."},
