@@ -151,21 +151,15 @@ private:
     std::optional<mvt_rows_fault> fault_;
 };
 
-/// The bytes are no tile. Says the first broken rule.
+/// The bytes are no tile. Says the first broken rule: the line that the program `mvt` prints, and the sentence.
 class refused : public error {
 public:
     /// Pass the refused bytes, or the first few of them.
     explicit refused(const mvt_fault &fault, input of = {}, bool are_all = true)
-        : error(line_of(fault)), fault_(fault), sentence_(mvt_explain(of.data(), of.size(), &fault)) {
-        mvt_place place{};
-        mvt_locate(of.data(), of.size(), &fault, &place);
-        if (place.has_layer_name) layer_name_ = std::make_shared<const std::string>(text_of(place.layer_name));
-        if (place.has_feature_id) feature_id_ = place.feature_id;
-        if (of.size() == 0 || !are_all) return;
-        start_ = place.start;
-        end_ = place.end;
-    }
+        : refused(fault, of, are_all, mvt_explain(of.data(), of.size(), &fault)) {}
 
+    /// The line that the program `mvt` prints.
+    [[nodiscard]] std::string line() const { return line_of(fault_); }
     [[nodiscard]] std::optional<std::uint32_t> layer() const noexcept { return index(fault_.layer); }
     [[nodiscard]] std::optional<std::uint32_t> feature() const noexcept { return index(fault_.feature); }
     /// An offset in the tile, or an index in the feature's tags or in the integers of its geometry.
@@ -187,6 +181,17 @@ public:
     [[nodiscard]] std::optional<std::uint64_t> end() const noexcept { return end_; }
 
 private:
+    refused(const mvt_fault &fault, input of, bool are_all, const char *sentence)
+        : error(line_of(fault) + ": " + sentence), fault_(fault), sentence_(sentence) {
+        mvt_place place{};
+        mvt_locate(of.data(), of.size(), &fault, &place);
+        if (place.has_layer_name) layer_name_ = std::make_shared<const std::string>(text_of(place.layer_name));
+        if (place.has_feature_id) feature_id_ = place.feature_id;
+        if (of.size() == 0 || !are_all) return;
+        start_ = place.start;
+        end_ = place.end;
+    }
+
     static std::optional<std::uint32_t> index(std::int64_t of) noexcept {
         if (of < 0) return std::nullopt;
         return static_cast<std::uint32_t>(of);
@@ -198,7 +203,6 @@ private:
 
     static std::string shown(std::int64_t of) { return of < 0 ? "-" : std::to_string(of); }
 
-    /// The line that the program `mvt` prints.
     static std::string line_of(const mvt_fault &fault) {
         return "layer " + shown(fault.layer) + " feature " + shown(fault.feature) + " at " + std::to_string(fault.at) +
                ": " + std::to_string(fault.cause) + " " + std::string(text_of(fault.name));
@@ -253,7 +257,9 @@ public:
     [[nodiscard]] const std::uint8_t *end() const & noexcept { return held_.data + held_.len; }
     [[nodiscard]] byte_span span() const & noexcept { return {held_.data, held_.len}; }
     [[nodiscard]] std::string_view text() const & noexcept { return view(); }
-    [[nodiscard]] friend bool operator==(const bytes &one, const bytes &other) noexcept { return one.view() == other.view(); }
+    [[nodiscard]] friend bool operator==(const bytes &one, const bytes &other) noexcept {
+        return one.view() == other.view();
+    }
     const std::uint8_t *data() const && = delete;
     const std::uint8_t *begin() const && = delete;
     const std::uint8_t *end() const && = delete;
@@ -361,7 +367,8 @@ public:
     void attributes(const mvt_layer &, const mvt_feature &, Visit) const && = delete;
 
     /// The value that a feature of the layer has for a key, if it has one.
-    [[nodiscard]] std::optional<value> attribute(const mvt_layer &layer, const mvt_feature &feature, text_input key) const &;
+    [[nodiscard]] std::optional<value> attribute(const mvt_layer &layer, const mvt_feature &feature,
+                                                 text_input key) const &;
     std::optional<value> attribute(const mvt_layer &, const mvt_feature &, text_input) const && = delete;
 
     [[nodiscard]] value value_of(const mvt_value &row) const & {
@@ -703,7 +710,9 @@ public:
     builder &points(std::span<const mvt_point> points) {
         return done(mvt_builder_points(&held_, points.data(), points.size()));
     }
-    builder &points(std::initializer_list<mvt_point> points) { return this->points(std::span(points.begin(), points.size())); }
+    builder &points(std::initializer_list<mvt_point> points) {
+        return this->points(std::span(points.begin(), points.size()));
+    }
     /// Adds integers to a feature of unknown geometry.
     builder &integers(std::span<const std::uint32_t> integers) {
         return done(mvt_builder_integers(&held_, integers.data(), integers.size()));

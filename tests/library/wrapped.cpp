@@ -387,10 +387,11 @@ int main(int argc, char **argv) try {
         const auto shown = [](auto index) { return index ? std::to_string(*index) : std::string("-"); };
         std::cerr << "layer " << shown(why.layer()) << " feature " << shown(why.feature()) << " at " << why.at() << ": "
                   << why.cause() << ' ' << why.name() << '\n';
-        require(why.what() == "layer " + shown(why.layer()) + " feature " + shown(why.feature()) + " at " +
+        require(why.line() == "layer " + shown(why.layer()) + " feature " + shown(why.feature()) + " at " +
                                   std::to_string(why.at()) + ": " + std::to_string(why.cause()) + " " +
                                   std::string(why.name()),
-                "the text of a fault");
+                "the line of a fault");
+        require(why.what() == why.line() + ": " + std::string(why.sentence()), "the text of a fault");
         return 1;
     }
     return std::cout.flush() ? 0 : 3;
