@@ -151,7 +151,7 @@ def _example(example: Example, stores: Dict[str, Store]) -> str:
         shown = _bytes(example.content, None)
         said.append(f"<p>{escape(row.notes)}; {counted(row.bytes or 0, 'byte')}.</p>")
         return f'<article>{"".join(said)}<div class="shown">{shown}</div></article>'
-    told = [f"<code>{escape(str(fault))}</code>", counted(row.bytes or 0, "byte"), escape(row.notes)]
+    told = [f"<code>{escape(fault.line)}</code>", counted(row.bytes or 0, "byte"), escape(row.notes)]
     if not fault.explanation.endswith(meaning(fault.cause)):
         said.append(f"<p>{escape(fault.explanation)}</p>")
     said.append(f'<p class="quiet">{"; ".join(filter(None, told))}</p>')
