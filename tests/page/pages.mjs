@@ -27,9 +27,15 @@ await onPage('canonical bytes are told as such', {}, async (page) => {
 });
 
 await onPage('what differs from the canonical form is told', {}, async (page) => {
-  await look(page, [made('order.mvt', Buffer.of(0x1a, 5, 0x0a, 1, 0x61, 0x78, 2))]);
-  const told = await page.value(textOf('.canonical'));
-  return /which is as long\. .*byte 2 .*Here stands the field name \(1\), and in the canonical form the field version/.test(told) || told;
+  const order = [0x0a, 1, 0x61, 0x78, 2];
+  const told = [];
+  for (const [name, layer] of [['order.mvt', [...order, 0x28, 0x80, 0x20]], ['extent.mvt', order]]) {
+    await look(page, [made(name, Buffer.of(0x1a, layer.length, ...layer))]);
+    told.push(await page.value(textOf('.canonical')));
+  }
+  const first = 'First difference, at byte 2 (layer 0 › name): Here stands the field name (1), and in the canonical form the field version (15).';
+  // An extent is always written there.
+  return same(told, ['is as long', 'has 10 bytes'].map((long) => `Not in canonical form, which ${long}. ${first}`));
 });
 
 await onPage('the picture shows areas, lines and points, and its layers can be switched off', {}, async (page) => {
