@@ -340,6 +340,11 @@ for (const [name, files] of [['a good tile', ['gdal.mvt']], ['a broken tile', ['
   });
 }
 
+await onPage('the command that opens a store stands in one line on a phone', { width: 390, height: 844 }, async (page) => {
+  const lines = await page.value("document.querySelector('.trial code').getClientRects().length");
+  return same([lines, await page.value('document.documentElement.scrollWidth')], [1, 390]);
+});
+
 await onPage('dark where the person has it so', { dark: true }, async (page) => {
   const colour = await page.value('getComputedStyle(document.body).backgroundColor');
   return same(colour, 'rgb(23, 25, 27)');
