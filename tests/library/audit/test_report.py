@@ -7,7 +7,8 @@ from pathlib import Path
 
 import mvt
 from common import TOP, example_tiles
-from mvt.audit.report import maps, pictures, shapes, words
+from mvt.audit.report import fields, maps, pictures, shapes, words
+
 
 def causes():
     return [int(cause) for cause in re.findall(r"^\| (\d+) \| \w+ \|", Path(TOP, "docs", "FORMAT.md").read_text(), re.MULTILINE)]
@@ -74,6 +75,27 @@ class Pictures(unittest.TestCase):
         self.assertLess(resource.getrusage(resource.RUSAGE_SELF).ru_maxrss - before, 100_000)
         self.assertIn('class="points"', picture.svg)
         self.assertNotIn("xxx", picture.svg)
+
+    def test_a_picture_without_attributes_draws_the_same(self):
+        for name, tile in example_tiles().items():
+            try:
+                drawn = mvt.to_svg(tile)
+            except mvt.Refused:
+                continue
+            with self.subTest(name):
+                self.assertEqual(pictures._drawing(tile), re.sub("<title>[^<]*</title>\n?", "", drawn))
+
+    def test_only_what_a_path_of_numbers_leads_to_is_left_out(self):
+        # a layer with two features: tags, kind, geometry; tags a number each and once more, kind
+        first, second = b"\x12\x02\0\0\x18\x01\x22\x03\x09\x04\x04", b"\x10\0\x10\0\x12\x01\0\x18\x02"
+        layer = b"\x78\x02\x0a\0" + fields.spelled(2, first) + fields.spelled(2, second) + b"\x1a\0"
+        other = b"\x7a\x02\x12\0"
+        wanted = b"\x78\x02\x0a\0" + fields.spelled(2, first[4:]) + fields.spelled(2, b"\x18\x02") + b"\x1a\0"
+        got = fields.without(other + fields.spelled(3, layer) + other, (fields.LAYERS, fields.FEATURES, fields.TAGS))
+        self.assertEqual(got, other + fields.spelled(3, wanted) + other)
+        # a number is no message, and what can't be split stays
+        self.assertEqual(fields.without(b"\x18\x05\x1a\x09\x12", (3, 2)), b"\x18\x05\x1a\x09\x12")
+        self.assertEqual(fields.spelled(3, bytes(300))[:3], b"\x1a\xac\x02")
 
 
 class Maps(unittest.TestCase):

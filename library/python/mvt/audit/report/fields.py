@@ -1,8 +1,8 @@
 """The fields of a broken tile, as far as they can be split: for pictures alone. Where a fault is, the library says."""
 
-from typing import Iterator, NamedTuple, Optional, Tuple
+from typing import Iterator, List, NamedTuple, Optional, Tuple
 
-LAYERS, FEATURES, EXTENT, KIND, GEOMETRY = 3, 2, 5, 3, 4
+LAYERS, FEATURES, EXTENT, TAGS, KIND, GEOMETRY = 3, 2, 5, 2, 3, 4
 _FIXED = {1: 8, 5: 4}
 
 
@@ -63,6 +63,30 @@ def holders(content: bytes, layer: Optional[int], feature: Optional[int]) -> Tup
     """A layer and a feature of it, by their indices."""
     held = _nth(content, 0, len(content), LAYERS, layer)
     return held, None if held is None else _nth(content, held.body, held.end, FEATURES, feature)
+
+
+def spelled(number: int, body: bytes) -> bytes:
+    """A message as a field of a number below 16."""
+    head = bytearray([number << 3 | 2])
+    size = len(body)
+    while size > 127:
+        head.append(size & 127 | 128)
+        size >>= 7
+    return bytes([*head, size]) + body
+
+
+def without(content: bytes, path: Tuple[int, ...]) -> bytes:
+    """A message without the fields that a path of numbers leads to, such as the tags of each feature of each layer."""
+    kept: List[bytes] = []
+    behind, rest = 0, path[1:]
+    for field in _fields(content, 0, len(content)):
+        if field.number != path[0] or (rest and field.wire != 2):
+            continue
+        kept.append(content[behind : field.at])
+        if rest:
+            kept.append(spelled(field.number, without(content[field.body : field.end], rest)))
+        behind = field.end
+    return b"".join([*kept, content[behind:]])
 
 
 def number_in(content: bytes, message: Field, number: int) -> Optional[int]:

@@ -6,7 +6,7 @@ from typing import List, NamedTuple, Optional, Tuple
 
 import mvt
 
-from .fields import EXTENT, KIND, Field, geometry, holders, number_in
+from .fields import EXTENT, FEATURES, KIND, LAYERS, TAGS, Field, geometry, holders, number_in, spelled, without
 from .shapes import Path, Point, paths, position
 
 # Larger pictures are left out of the page, and of larger tiles none is made.
@@ -28,14 +28,6 @@ class Picture(NamedTuple):
     told: str
 
 
-def _varint(number: int) -> bytes:
-    spelled = bytearray()
-    while number > 127:
-        spelled.append(number & 127 | 128)
-        number >>= 7
-    return bytes([*spelled, number])
-
-
 def _without(tile: bytes, fault: mvt.Refused) -> bytes:
     """The tile without the feature, the layer or the end that a fault names."""
     layer, feature = holders(tile, fault.layer, fault.feature)
@@ -44,7 +36,7 @@ def _without(tile: bytes, fault: mvt.Refused) -> bytes:
     if feature is None:
         return tile[: layer.at] + tile[layer.end :]
     body = tile[layer.body : feature.at] + tile[feature.end : layer.end]
-    return tile[: layer.at] + b"\x1a" + _varint(len(body)) + body + tile[layer.end :]
+    return tile[: layer.at] + spelled(LAYERS, body) + tile[layer.end :]
 
 
 def mended(tile: bytes) -> Tuple[Optional[bytes], int]:
@@ -64,10 +56,7 @@ def mended(tile: bytes) -> Tuple[Optional[bytes], int]:
 
 def _drawing(tile: bytes) -> str:
     """The picture of a tile without attributes, since a text that many features have would stand in it for each."""
-    rows = mvt.rows(tile)
-    for feature in rows.features:
-        feature.tags.len = 0
-    return _TITLE.sub("", mvt.to_svg(mvt.write(rows)))
+    return _TITLE.sub("", mvt.to_svg(without(tile, (LAYERS, FEATURES, TAGS))))
 
 
 def _document(content: str, box: str = "0 0 1 1") -> str:
