@@ -13,6 +13,7 @@ from contextlib import closing
 from pathlib import Path
 
 import pytest
+from archives import varint
 from common import at_places, make_mbtiles
 from hostile import audited, in_time, listed, short, verdicts
 from hypothesis import given, settings
@@ -81,7 +82,7 @@ def view_of(select, before=()):
 
 
 ENDLESS = "with recursive c(x) as (select 1 union all select x + 1 from c) select x as zoom_level, x as tile_column, x as tile_row, x'00' as tile_data from c"
-FIRST = "select 0 as zoom_level, 0 as tile_column, 0 as tile_row, x'1a00' as tile_data union all"
+FIRST = f"select 0 as zoom_level, 0 as tile_column, 0 as tile_row, x'{TILE.hex()}' as tile_data union all"
 
 # ---- rows whose places are none
 
@@ -332,7 +333,8 @@ def test_a_place_of_a_gigabyte_is_no_more_than_a_name(what, column, tmp_path, me
 
 @pytest.mark.parametrize("size", [66 << 20, 100 << 20])
 def test_a_large_tile_of_a_table_is_too_large(size, tmp_path):
-    path = made(tmp_path / "a.mbtiles", TABLES["indexed"], [(0, 0, 0, bytes(size)), (1, 0, 0, TILE)])
+    head = TILE + b"\x7a" + varint(size - 11)
+    path = made(tmp_path / "a.mbtiles", TABLES["indexed"], [(0, 0, 0, head.ljust(size, b"\0")), (1, 0, 0, TILE)])
     rows = audited(path)
     assert [(row.verdict, row.cause_name) for row in rows] == [("refused", "TooLarge"), ("accepted", None)]
     assert len(listed(path)) == 2

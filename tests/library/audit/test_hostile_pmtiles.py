@@ -18,6 +18,8 @@ from mvt.audit.stores import StoreError
 from mvt.audit.tile_ids import id_of, place_of
 
 TILE = b"\x1a\x04\x78\x02\x0a\x00"
+# The entry of the first tile.
+ONE = (0, 1, 0, len(TILE))
 # So many ids there are, of the zooms 0 to 31.
 PLACES = (4**32 - 1) // 3
 # Where the header says what.
@@ -80,14 +82,14 @@ def test_a_run_is_one_row_however_long(run, made):
 
 def test_a_run_beyond_all_places_is_told(made):
     for run in (PLACES, 2**63, 2**64 - 1):
-        rows = audited(made(archive([(0, 1, 0, 4), (1, run, 0, 4)])))
+        rows = audited(made(archive([ONE, (1, run, 0, 4)])))
         assert [row.verdict for row in rows] == ["accepted", "unread"]
         assert rows[1].notes == "entry 1 has tile ids beyond zoom 31"
 
 
 @pytest.mark.parametrize("said", [2, 2**40, 2**62, 2**63, 2**64 - 1])
 def test_a_header_that_says_more_tiles_than_there_are(said, made):
-    path = made(archive([(0, 1, 0, 4)], addressed=said))
+    path = made(archive([ONE], addressed=said))
     store = stores.opened(str(path))
     assert store.state().tiles == min(said, PLACES)
     assert verdicts(audited(path)) == {"0/0/0": "accepted", "header": "unread"}
@@ -99,18 +101,18 @@ def test_a_header_that_says_more_tiles_than_there_are(said, made):
 def test_a_section_beyond_the_file_is_told(at, said, made):
     for where in (at, at + 8):
         with pytest.raises(StoreError, match="end at .*, and the file has"):
-            audited(made(changed(archive([(0, 1, 0, 4)]), where, said)))
+            audited(made(changed(archive([ONE]), where, said)))
 
 
 def test_a_directory_of_a_terabyte_in_a_hole_is_told(made):
-    root = changed(changed(archive([(0, 1, 0, 4)]), ROOT, 4096), ROOT + 8, 1 << 40)
+    root = changed(changed(archive([ONE]), ROOT, 4096), ROOT + 8, 1 << 40)
     for ask in (audited, listed):
         with pytest.raises(StoreError, match="it has 1,099,511,627,776 bytes; 64,000,000 are the most"):
             ask(made(root, 1 << 41))
 
 
 def test_a_leaf_of_a_terabyte_in_a_hole_is_an_unread_row(made):
-    content = archive([(0, 1, 0, 4), (1, 0, 0, 1 << 40)])
+    content = archive([ONE, (1, 0, 0, 1 << 40)])
     content = changed(changed(content, LEAVES, 1 << 20), LEAVES + 8, 1 << 40)
     path = made(content, 1 << 41)
     rows = audited(path)
@@ -122,7 +124,8 @@ def test_a_leaf_of_a_terabyte_in_a_hole_is_an_unread_row(made):
 def test_a_tile_of_a_terabyte_in_a_hole_is_read_no_further_than_decides(made):
     content = archive([(0, 1, 0, 1 << 40)])
     content = changed(changed(content, TILES, 1 << 20), TILES + 8, 1 << 40)
-    [row] = audited(made(content, 1 << 41))
+    front = b"\x7a" + archives.varint((1 << 40) - 7)
+    [row] = audited(made(content.ljust(1 << 20, b"\0") + front, 1 << 41))
     assert (row.verdict, row.cause_name) == ("refused", "TooLarge")
 
 
@@ -211,7 +214,7 @@ def test_ids_and_places_are_each_others(number):
 
 @pytest.mark.parametrize("key", [(), (1,), (-1, 0), (1, 2), (1, -1), (PLACES, 0), (2**70, 0), ("0", 0), (None, None), (0, 0, 0)], ids=short)
 def test_a_key_that_is_none(key, made):
-    store = stores.opened(str(made(archive([(0, 1, 0, 4)]))))
+    store = stores.opened(str(made(archive([ONE]))))
     store.check()
     for ask in (store.held, lambda key: list(store.since(key))):
         with pytest.raises(ValueError):
