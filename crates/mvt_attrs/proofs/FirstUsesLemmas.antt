@@ -7,7 +7,7 @@ use Rattle.mvt_base.specs.Related.{AreRelated}
 use Rattle.mvt_attrs.specs.declared.value.Attribute.{Attribute}
 use Rattle.mvt_attrs.specs.declared.value.Value.{Value}
 use Rattle.mvt_attrs.specs.FirstUse.{AreDistinct}
-use Rattle.mvt_attrs.specs.FirstUses.{AreFirstUses, IsUseOf}
+use Rattle.mvt_attrs.specs.FirstUses.{AreFirstUses, AreInOrder, IsUseOf}
 use Rattle.mvt_attrs.specs.Pools.{key_pool, value_pool}
 use Rattle.mvt_attrs.specs.Tags.{Names}
 use Rattle.mvt_attrs.specs.TagRules.{pairs_of}
@@ -126,3 +126,27 @@ module _ (keys : List (List ℕ)) (values : List Value) (attributes : List Attri
         keys_are = ap (key_pool (take keys_before keys)) (sym all) ∙ sym so_far.so_far.keys_are;
         values_are = ap (value_pool (take values_before values)) (sym all) ∙ sym so_far.so_far.values_are;
       }
+
+  in_order : (rest : List ℕ) (used after : ℕ × ℕ) → AreInOrder used rest after
+      → FirstUsesSoFar keys values attributes rest keys_before values_before used.0 used.1
+      → AreFirstUses keys values attributes keys_before values_before after
+  in_order [] used after is so_far =
+      subst (AreFirstUses keys values attributes keys_before values_before) is (uses_end [] used.0 used.1 so_far (omega arith))
+  in_order (k ∷ []) used after is so_far = absurd is
+  in_order (k ∷ (v ∷ tags)) used after (next, key, value, more) so_far =
+      in_order tags next after more (uses_step (k ∷ (v ∷ tags)) tags used.0 used.1 next.0 next.1 so_far (omega arith) refl key value)
+
+-- tags in order
+pub uses_in_order : (keys : List (List ℕ)) (values : List Value) (attributes : List Attribute) (tags : List ℕ) (before after : ℕ × ℕ)
+    → AreDistinct keys → AreDistinct values → before.0 ≤ length keys → before.1 ≤ length values → Names keys values tags attributes
+    → AreInOrder before tags after → AreFirstUses keys values attributes before.0 before.1 after
+uses_in_order keys values attributes tags before after apart_keys apart_values few_keys few_values names is =
+    in_order keys values attributes apart_keys apart_values before.0 before.1 tags before after is
+    (uses_start keys values attributes apart_keys apart_values before.0 before.1 tags few_keys few_values names)
+
+pub order_more : (tags : List ℕ) (before at after : ℕ × ℕ) (key value : ℕ) → AreInOrder before tags at → IsUseOf at.0 key after.0
+    → IsUseOf at.1 value after.1 → AreInOrder before (tags ++ key ∷ (value ∷ [])) after
+order_more [] before at after key value is use_key use_value = rw is (after, use_key, use_value, refl)
+order_more (k ∷ []) before at after key value is use_key use_value = absurd is
+order_more (k ∷ (v ∷ tags)) before at after key value (next, first, second, more) use_key use_value =
+    (next, first, second, order_more tags next at after key value more use_key use_value)

@@ -12,6 +12,7 @@ mod PlacingLemmas
 mod TwoChoicesLemmas
 mod OrderedLemmas
 mod JudgingLemmas
+mod PackedTagsLemmas
 mod UsesLemmas
 mod AppendedLemmas
 mod IndicesLemmas

@@ -1,5 +1,5 @@
 -- Keys in their groups, and the marks that a feature leaves at the places of its keys.
-use Rattle.std.proofs.Common.{◌≡◌, ℕ, ◌+◌, ◌<◌, ◌==◌, Bool, true, false, not, ◌||◌, List, [], ◌∷◌, ◌++◌, length, get_or, set, Option, Some, None, slice_get, bytes_eq, refl, sym, ap, subst, ◌∙◌, ⊎_elim, inl, inr, arith}
+use Rattle.std.proofs.Common.{◌≡◌, ℕ, ◌+◌, ◌<◌, ◌==◌, Bool, true, false, not, ◌||◌, List, [], ◌∷◌, ◌++◌, length, get_or, set, Option, Some, None, slice_get, bytes_eq, refl, sym, ap, subst, ◌∙◌, ⊎_elim, arith}
 use Rattle.std.specs.Map.{update}
 use Rattle.std.specs.Option.{unwrap_or}
 use Rattle.std.proofs.Math.Seq.{get_or-append_seam}
@@ -11,7 +11,7 @@ use Rattle.std.proofs.lemmas.Map.{update_same, update_other}
 use Rattle.std.proofs.lemmas.Option.{slice_get_within, slice_get-get_or}
 use Rattle.std.proofs.lemmas.Slice.Eq.{bytes_eq-Decides}
 use Rattle.mvt_attrs.specs.declared.value.Attribute.{Attribute}
-use Rattle.mvt_attrs.specs.Inner.Marking.{IsGrouped, IsMarked, IsPlaceAfter, AreBelow}
+use Rattle.mvt_attrs.specs.Inner.Marking.{IsGrouped, IsMarked, AreBelow}
 use Rattle.mvt_attrs.specs.Tags.{has_key}
 
 -- the places of the first texts, and where each text is found among them
@@ -85,66 +85,6 @@ module _ (texts : List (List ℕ)) (n : ℕ) (first_indices : List ℕ) (find af
     found = found_at;
     first = first_at;
   })
-
--- the places so far, found by some function that answers only these
-abbrev pub FoundFew : List (List ℕ) → List ℕ → Type 0
-FoundFew texts first_indices =
-    (find : List ℕ → Option ℕ) × Found texts (length first_indices) first_indices find
-    × ((q : List ℕ) (v : ℕ) → find q ≡ Some v → v < length first_indices)
-
-module _ (texts : List (List ℕ)) (first_indices : List ℕ) (find : List ℕ → Option ℕ)
-    (so_far : Found texts (length first_indices) first_indices find)
-    (low : (q : List ℕ) (v : ℕ) → find q ≡ Some v → v < length first_indices) (text : List ℕ)
-    (at : slice_get texts (length first_indices) ≡ Some text) where
-  place_found : (place : ℕ) → IsPlaceAfter texts first_indices place → place ≡ unwrap_or (find text) (length first_indices)
-  place_found place (inl (j, lt, same, is)) = is ∙ sym (ap (λ o. unwrap_or o (length first_indices)) (so_far.found j text lt (same ∙ at)))
-  place_found place (inr (none, is)) = by (find text) refl
-    where
-      by : (o : Option ℕ) → find text ≡ o → place ≡ unwrap_or (find text) (length first_indices)
-      by None e = is ∙ sym (ap (λ o. unwrap_or o (length first_indices)) e)
-      by (Some v) e = absurd (none v (low text v e) (so_far.first text v e ∙ sym at))
-
-  place_low : (place : ℕ) → place ≡ unwrap_or (find text) (length first_indices) → place < length first_indices + 1
-  place_low place is = by (find text) refl
-    where
-      by : (o : Option ℕ) → find text ≡ o → place < length first_indices + 1
-      by None e = let here : place ≡ length first_indices = is ∙ ap (λ o. unwrap_or o (length first_indices)) e in omega arith
-      by (Some v) e =
-          let here : place ≡ v = is ∙ ap (λ o. unwrap_or o (length first_indices)) e in
-          let small = low text v e in
-          omega arith
-
-  few_low : (place : ℕ) → place < length first_indices + 1 → (q : List ℕ) (v : ℕ)
-      → update bytes_eq find text (Some place) q ≡ Some v → v < length first_indices + 1
-  few_low place small q v e = by (bytes_eq text q) refl
-    where
-      by : (b : Bool) → bytes_eq text q ≡ b → v < length first_indices + 1
-      by true same =
-          let here : Some place ≡ Some v = sym (update_same bytes_eq find text (Some place) q same) ∙ e in
-          let is : place ≡ v = cc in
-          omega arith
-      by false other =
-          let before = low q v (sym (update_other bytes_eq find text (Some place) q other) ∙ e) in
-          omega arith
-
-  pub few_more : (place : ℕ) (longer : List ℕ) → IsPlaceAfter texts first_indices place → longer ≡ first_indices ++ place ∷ []
-      → FoundFew texts longer
-  few_more place longer behind e =
-      let is = place_found place behind in
-      let after = update bytes_eq find text (Some place) in
-      let len : length first_indices + 1 ≡ length longer = omega (arith, ap length e, length_push first_indices place) in (
-        after,
-        subst (λ n. Found texts n longer after) len
-            (found_more texts (length first_indices) first_indices find after text place so_far at is (λ q. refl) longer e),
-        subst (λ n. (q : List ℕ) (v : ℕ) → after q ≡ Some v → v < n) len (few_low place (place_low place is)),
-      )
-
-pub few_none : (texts : List (List ℕ)) (first_indices : List ℕ) → first_indices ≡ [] → FoundFew texts first_indices
-few_none texts first_indices e = (
-  λ q. None,
-  subst (λ n. Found texts n first_indices (λ q. None)) (sym (ap length e)) (found_none texts first_indices (λ q. None) e (λ q. refl)),
-  λ q v is. cc,
-)
 
 pub grouped : (texts : List (List ℕ)) (n : ℕ) (first_indices : List ℕ) (find : List ℕ → Option ℕ) → n ≡ length texts
     → Found texts n first_indices find → IsGrouped texts first_indices

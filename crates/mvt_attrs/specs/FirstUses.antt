@@ -1,5 +1,5 @@
 -- Attributes that use the entries of a layer in order: each entry that is new is the next (4.4).
-use Rattle.std.specs.Prelude.{◌≡◌, ◌≤◌, ◌+◌, ◌<◌, ◌⊎◌, ℕ, List, length, map, take}
+use Rattle.std.specs.Prelude.{◌≡◌, ◌≤◌, ◌+◌, ◌<◌, ◌⊎◌, ℕ, List, [], ◌∷◌, length, map, take}
 use Rattle.std.specs.Borrow.{Bor}
 use Rattle.mvt_attrs.specs.declared.value.Attribute.{Attribute}
 use Rattle.mvt_attrs.specs.declared.value.Value.{Value}
@@ -20,3 +20,10 @@ lent entries = map (λ (b : Bor (List ℕ)). b.now) entries
 -- an entry among the first, or the one after them
 abbrev pub IsUseOf : ℕ → ℕ → ℕ → Type 0
 IsUseOf used index after = ((index < used) × (after ≡ used)) ⊎ ((index ≡ used) × (after ≡ used + 1))
+
+-- tags of pairs of such: where so many keys and values are used before them, so many are after
+abbrev pub AreInOrder : ℕ × ℕ → List ℕ → ℕ × ℕ → Type 0
+AreInOrder before [] after = before ≡ after
+AreInOrder before (key ∷ []) after = ⊥
+AreInOrder before (key ∷ (value ∷ tags)) after =
+    (next : ℕ × ℕ) × IsUseOf before.0 key next.0 × IsUseOf before.1 value next.1 × AreInOrder next tags after

@@ -6,6 +6,7 @@ pub mod Placed
 pub mod Tags
 pub mod TagRules
 pub mod TagPlaces
+pub mod Packed
 pub mod Using
 pub mod Texts
 pub mod Inner

@@ -58,7 +58,7 @@ pub fn judge_tags(
 }
 
 /// The same if there is one pair at most, which repeats no key.
-fn judge_pair(texts: &[Text], values: usize, tags: &[u32]) -> Result<(), TagError>
+pub(crate) fn judge_pair(texts: &[Text], values: usize, tags: &[u32]) -> Result<(), TagError>
     requires { length tags.now ≤ 2 }
     ensures ok { OnOk result ((held : List Value) → length held ≡ values
         → tag_fault texts.now held tags.now ≡ None) }

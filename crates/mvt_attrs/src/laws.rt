@@ -7,6 +7,7 @@ ghost use Rattle.mvt_attrs.specs.declared.value.Value.{Value};
 ghost use Rattle.mvt_attrs.specs.declared.value.Attribute.{Attribute};
 ghost use Rattle.mvt_attrs.specs.declared.resolving.TagCause.{TagCause};
 ghost use Rattle.mvt_attrs.specs.FirstUse.{AreDistinct};
+ghost use Rattle.mvt_attrs.specs.FirstUses.{AreFirstUses, AreInOrder};
 ghost use Rattle.mvt_attrs.specs.Pools.{key_pool, value_pool};
 ghost use Rattle.mvt_attrs.specs.Tags.{Names, Resolved};
 ghost use Rattle.mvt_attrs.specs.TagRules.{count_rules, pair_rules, tag_rules, tag_fault};
@@ -109,6 +110,16 @@ pub fn tags_stay()
         (attributes : List Attribute) →
         AreDistinct keys → AreDistinct values → Names keys values tags attributes →
         tags ≡ tags_in (keys ++ more) (values ++ further) attributes }
+{}
+
+/// Tags that name entries in order use the first of them.
+pub fn uses_in_order()
+    ensures { (keys : List (List ℕ)) (values : List Value) (attributes : List Attribute)
+        (tags : List ℕ) (before after : ℕ × ℕ) →
+        AreDistinct keys → AreDistinct values →
+        before.0 ≤ length keys → before.1 ≤ length values →
+        Names keys values tags attributes → AreInOrder before tags after →
+        AreFirstUses keys values attributes before.0 before.1 after }
 {}
 
 /// Which entries were added can be read from what holds them.

@@ -4,7 +4,7 @@ ghost use Rattle.std.specs.Bool.{OnTrue};
 ghost use Rattle.std.specs.Map.{update};
 ghost use Rattle.std.specs.Option.{unwrap_or};
 ghost use Rattle.mvt_attrs.specs.FirstUse.{AreDistinct};
-ghost use Rattle.mvt_attrs.specs.Inner.Marking.{IsGrouped, IsPlaceAfter, IsReady, AreBelow, place_in_map};
+ghost use Rattle.mvt_attrs.specs.Inner.Marking.{IsGrouped, IsReady, AreBelow, place_in_map};
 
 use crate::apart::index_apart;
 use mvt_base::Text;
@@ -87,46 +87,14 @@ pub(crate) fn make_ready(
     Ok(())
 }
 
-/// The most keys that are grouped by comparing each with those before it.
-const MOST_COMPARED: usize = 8;
-
 /// For each text the first index at which it stands.
 fn group(alloc: Global, texts: &[Text]) -> Result<Vec<usize>, AllocError>
     ensures { IfOk result (λ first_indices. IsGrouped texts.now first_indices.items) }
 {
-    if texts.len() <= MOST_COMPARED {
-        return group_few(alloc, texts);
-    }
     match index_apart(alloc, texts)? {
         Some(_) => group_apart(alloc, texts),
         None => group_many(alloc, texts),
     }
-}
-
-/// The same by plain comparisons, whose number is the square of that of the texts.
-fn group_few(alloc: Global, texts: &[Text]) -> Result<Vec<usize>, AllocError>
-    ensures { IfOk result (λ first_indices. IsGrouped texts.now first_indices.items) }
-{
-    let mut first_indices = Vec::with_capacity(alloc, texts.len())?;
-    for _ in texts {
-        let place = place_after(texts, &first_indices);
-        first_indices.push(place)?;
-    }
-    Ok(first_indices)
-}
-
-/// The place of the first text that has none yet: that of an earlier equal one, or its index.
-fn place_after(texts: &[Text], first_indices: &[usize]) -> usize
-    requires { length first_indices.now < length texts.now }
-    ensures { IsPlaceAfter texts.now first_indices.now result }
-{
-    let index = first_indices.len();
-    for (before, place) in first_indices.iter().enumerate() {
-        if texts[before] == texts[index] {
-            return *place;
-        }
-    }
-    index
 }
 
 /// The same for texts that stand once each.

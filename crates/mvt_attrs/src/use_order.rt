@@ -1,32 +1,42 @@
 //! Whether tags name the entries of a layer in order of first use (4.4).
-ghost use Rattle.std.specs.Prelude.{◌≤◌, ℕ, List, length, IfSome};
-ghost use Rattle.mvt_attrs.specs.declared.value.Attribute.{Attribute};
-ghost use Rattle.mvt_attrs.specs.declared.value.Value.{Value as AValue};
-ghost use Rattle.mvt_attrs.specs.FirstUse.{AreDistinct};
-ghost use Rattle.mvt_attrs.specs.FirstUses.{AreFirstUses, IsUseOf};
-ghost use Rattle.mvt_attrs.specs.Tags.{Names};
+ghost use Rattle.std.specs.Prelude.{IfSome};
+ghost use Rattle.mvt_attrs.specs.FirstUses.{IsUseOf};
 
-/// How many keys and values of a layer are used after these tags, if this many were used before.
-/// `Some` means that each new one is the next in order; `None` costs speed alone.
-pub fn first_uses(tags: &[u32], keys: usize, values: usize) -> Option<(usize, usize)>
-    ensures { (all_keys : List (List ℕ)) (all_values : List AValue) (attributes : List Attribute)
-        → AreDistinct all_keys → AreDistinct all_values
-        → keys ≤ length all_keys → values ≤ length all_values
-        → Names all_keys all_values tags.now attributes
-        → IfSome result (AreFirstUses all_keys all_values attributes keys values) }
-{
-    let mut used_keys = keys;
-    let mut used_values = values;
-    let mut rest = tags;
-    while let [key, value, others @ ..] = rest {
-        used_keys = with_use(used_keys, *key)?;
-        used_values = with_use(used_values, *value)?;
-        rest = others;
-    }
-    Some((used_keys, used_values))
+use crate::packed_tags::TagVisitor;
+use std::alloc::AllocError;
+
+/// How many keys and values of a layer are used so far, where each new one is the next in order. It
+/// doesn't go on where one isn't; that costs speed alone.
+#[derive(Debug, Drop)]
+pub struct UseOrder {
+    pub keys: usize,
+    pub values: usize,
 }
 
-/// The same after one more use, of the entry of this index.
+impl TagVisitor for UseOrder {
+    ghost use Rattle.std.proofs.Common.{refl};
+    ghost use Rattle.mvt_attrs.specs.FirstUses.{AreInOrder};
+
+    ghost has_tags = { λ start tags now.
+        AreInOrder (start.keys, start.values) tags (now.keys, now.values) };
+
+    ghost begins = { λ _. refl };
+
+    #[inline(always)]
+    fn visit_pair(&mut self, key: u32, value: u32) -> Result<bool, AllocError> {
+        let Some(keys) = with_use(self.keys, key) else {
+            return Ok(false);
+        };
+        let Some(values) = with_use(self.values, value) else {
+            return Ok(false);
+        };
+        self.keys = keys;
+        self.values = values;
+        Ok(true)
+    }
+}
+
+/// How many entries are used after one more use, of the entry of this index.
 #[inline(always)]
 fn with_use(used: usize, index: u32) -> Option<usize>
     ensures { IfSome result (IsUseOf used index) }

@@ -13,6 +13,8 @@ mod io;
 #[cfg(test)]
 mod packed;
 #[cfg(test)]
+mod packed_tags;
+#[cfg(test)]
 mod pools;
 #[cfg(test)]
 mod uses;

@@ -15,7 +15,7 @@ const LETTERS: [&str; 40] = [
 ];
 
 // A front after which the kit's FoldHasher forgets 8 bytes, in a text of 48 bytes: see
-// bench/hostile.cc.
+// bench/one_hash.hpp.
 const FRONT: &str = "aaaaaaaa10000297\x13-.\x0ebG\x02b";
 
 fn hashes_alike(rt: &(impl Abort + AllocGlobal), number: u32) -> Text {

@@ -13,7 +13,7 @@ enum Way {
 }
 
 // A short text, a long one, or one of those that the kit's FoldHasher doesn't tell apart: see
-// bench/hostile.cc.
+// bench/one_hash.hpp.
 fn key_of(alloc: Global, number: u32) -> Result<Text, AllocError> {
     let number = u64::from(number) + 10_000_000;
     let text = match number % 3 {

@@ -11,28 +11,31 @@ use Rattle.mvt_base.proofs.TableLemmas.{each_none}
 use Rattle.mvt_base.proofs.SelectionLemmas.{all_only}
 use Rattle.mvt_attrs.specs.declared.value.Value.{Value}
 use Rattle.mvt_attrs.specs.declared.value.Value.TheVariants.{Text, Float, Double, Int, Uint, Sint, Bool as Truth}
-use Rattle.mvt_attrs.specs.Tags.{Names}
+use Rattle.mvt_attrs.specs.Tags.{Names, Resolved}
 use Rattle.mvt_geometry.specs.declared.shape.Kind.{Kind}
 use Rattle.mvt_geometry.specs.declared.shape.Kind.TheVariants as kinds
-use Rattle.mvt_geometry.specs.Drawing.{drawn}
+use Rattle.mvt_geometry.specs.Drawing.{drawn, Draws}
 use Rattle.mvt_geometry.specs.Shape.{kind_of}
 use Rattle.mvt_wire.specs.Field.{varint, bytes, Entry}
 use Rattle.mvt_wire.specs.Spelling.{Plain, plain_of, short_field, short_numbers, spelled, IsFit}
+use Rattle.mvt_wire.specs.Packed.{ArePacked}
 use Rattle.mvt_wire.specs.Zigzag.{zig}
 use Rattle.mvt_feature.specs.declared.numbers.feature.TheConstants.{ID, TAGS, TYPE, GEOMETRY}
 use Rattle.mvt_feature.specs.declared.numbers.value.TheConstants.{STRING}
 use Rattle.mvt_feature.specs.declared.feature.Feature.{Feature}
-use Rattle.mvt_feature.specs.Canonical.{plain, field_of_value, value_fields, id_fields, tags_fields, type_number, drawing_fields, feature_fields}
-use Rattle.mvt_feature.specs.Features.{Joined, number_of, number_in, kind_numbered, kind_of_type, IsFeature, IsFeatureOf}
-use Rattle.mvt_feature.specs.Forms.{any_varint, geom_type, HasForm, number_rules, string}
+use Rattle.mvt_feature.specs.Canonical.{plain, field_of_value, value_fields, id_fields, tags_fields, type_fields, type_number, drawing_fields, feature_fields}
+use Rattle.mvt_feature.specs.Copying.{packed_tags}
+use Rattle.mvt_feature.specs.Features.{feature_forms, Joined, number_of, number_in, kind_numbered, kind_of_type, IsFeature, IsFeatureOf}
+use Rattle.mvt_feature.specs.Forms.{any_varint, geom_type, HasForm, HaveForms, number_rules, string}
 use Rattle.mvt_feature.specs.Selection.{only}
 use Rattle.mvt_feature.specs.Valid.{ValidValue, ValidFeature}
 use Rattle.mvt_feature.specs.Values.{value_forms, Means, IsValue, IsValueOf}
 use Rattle.mvt_feature.specs.ValueRules.{kinds, are_one_kind, value_field_rules}
 use Rattle.mvt_feature.proofs.ValueLemmas.{value_from, rules_clean}
 use Rattle.mvt_feature.proofs.FormLemmas.{form_clean}
+use Rattle.mvt_feature.proofs.CopyingLemmas.{packed_none}
 use Rattle.mvt_geometry.proofs.GeometryLaws.{drawn_small}
-use Rattle.mvt_wire.proofs.WireLaws.{short_lengths_bytes, short_packed_packed, spelled_parts, spelled_whole_whole}
+use Rattle.mvt_wire.proofs.WireLaws.{packed_function_only, short_lengths_bytes, short_lengths_numbers, short_packed_packed, spelled_parts, spelled_whole_whole}
 
 none_of : (xs : List Entry) → map plain_of xs ≡ [] → xs ≡ []
 none_of [] h = refl
@@ -137,36 +140,35 @@ only_of_plain k (x ∷ xs) = by_test (x.number == k) (only_of_plain k xs)
     by_test true h = ap (λ l. plain_of x ∷ l) h
     by_test false h = h
 
+-- fields of an id, of packed tags, of a type and of packed integers
 abbrev all_fields : Option ℕ → List ℕ → Kind → List ℕ → List Plain
-all_fields id tags kind integers = id_fields id ++ (tags_fields tags ++ drawing_fields kind integers)
+all_fields id d kind e = id_fields id ++ (packed_tags d ++ (type_fields kind ++ plain GEOMETRY (bytes e) ∷ []))
 
-ids_only : (id : Option ℕ) (tags : List ℕ) (kind : Kind) (integers : List ℕ)
-    → only_plain ID (all_fields id tags kind integers) ≡ id_fields id
-ids_only None [] kind integers = refl
-ids_only None (t ∷ ts) kind integers = refl
-ids_only (Some n) [] kind integers = refl
-ids_only (Some n) (t ∷ ts) kind integers = refl
+ids_only : (id : Option ℕ) (d : List ℕ) (kind : Kind) (e : List ℕ) → only_plain ID (all_fields id d kind e) ≡ id_fields id
+ids_only None [] kind e = refl
+ids_only None (b ∷ bs) kind e = refl
+ids_only (Some n) [] kind e = refl
+ids_only (Some n) (b ∷ bs) kind e = refl
 
-tags_only : (id : Option ℕ) (tags : List ℕ) (kind : Kind) (integers : List ℕ)
-    → only_plain TAGS (all_fields id tags kind integers) ≡ tags_fields tags
-tags_only None [] kind integers = refl
-tags_only None (t ∷ ts) kind integers = refl
-tags_only (Some n) [] kind integers = refl
-tags_only (Some n) (t ∷ ts) kind integers = refl
+tags_only : (id : Option ℕ) (d : List ℕ) (kind : Kind) (e : List ℕ) → only_plain TAGS (all_fields id d kind e) ≡ packed_tags d
+tags_only None [] kind e = refl
+tags_only None (b ∷ bs) kind e = refl
+tags_only (Some n) [] kind e = refl
+tags_only (Some n) (b ∷ bs) kind e = refl
 
-type_only : (id : Option ℕ) (tags : List ℕ) (kind : Kind) (integers : List ℕ)
-    → only_plain TYPE (all_fields id tags kind integers) ≡ plain TYPE (varint (type_number kind)) ∷ []
-type_only None [] kind integers = refl
-type_only None (t ∷ ts) kind integers = refl
-type_only (Some n) [] kind integers = refl
-type_only (Some n) (t ∷ ts) kind integers = refl
+type_only : (id : Option ℕ) (d : List ℕ) (kind : Kind) (e : List ℕ)
+    → only_plain TYPE (all_fields id d kind e) ≡ plain TYPE (varint (type_number kind)) ∷ []
+type_only None [] kind e = refl
+type_only None (b ∷ bs) kind e = refl
+type_only (Some n) [] kind e = refl
+type_only (Some n) (b ∷ bs) kind e = refl
 
-integers_only : (id : Option ℕ) (tags : List ℕ) (kind : Kind) (integers : List ℕ)
-    → only_plain GEOMETRY (all_fields id tags kind integers) ≡ plain GEOMETRY (bytes (short_numbers integers)) ∷ []
-integers_only None [] kind integers = refl
-integers_only None (t ∷ ts) kind integers = refl
-integers_only (Some n) [] kind integers = refl
-integers_only (Some n) (t ∷ ts) kind integers = refl
+integers_only : (id : Option ℕ) (d : List ℕ) (kind : Kind) (e : List ℕ)
+    → only_plain GEOMETRY (all_fields id d kind e) ≡ plain GEOMETRY (bytes e) ∷ []
+integers_only None [] kind e = refl
+integers_only None (b ∷ bs) kind e = refl
+integers_only (Some n) [] kind e = refl
+integers_only (Some n) (b ∷ bs) kind e = refl
 
 -- the number of a last field
 id_last : (xs : List Entry) (id : Option ℕ) → map plain_of xs ≡ id_fields id → number_in (last_or None xs) ≡ id
@@ -212,18 +214,67 @@ type_last xs kind h =
     ∙ kind_back kind
 
 -- the numbers of one packed field
-packed_joined : (xs : List Entry) (k : ℕ) (ns : List ℕ) → AllByRecursion (λ n. n < 2 ^ 32) ns
-    → map plain_of xs ≡ plain k (bytes (short_numbers ns)) ∷ [] → Joined xs ns
-packed_joined xs k ns small h =
-    let one = mapped_one plain_of xs (plain k (bytes (short_numbers ns))) h in
-    let content : one.0.content ≡ bytes (short_numbers ns) = ap (λ (p : Plain). p.content) one.2 in
-    let joined : Joined (one.0 ∷ []) ns = (ns, [], sym (append-nil ns), rw content (short_packed_packed ns small), refl) in
+packed_joined : (xs : List Entry) (k : ℕ) (d ns : List ℕ) → ArePacked d ns → map plain_of xs ≡ plain k (bytes d) ∷ [] → Joined xs ns
+packed_joined xs k d ns are h =
+    let one = mapped_one plain_of xs (plain k (bytes d)) h in
+    let content : one.0.content ≡ bytes d = ap (λ (p : Plain). p.content) one.2 in
+    let joined : Joined (one.0 ∷ []) ns = (ns, [], sym (append-nil ns), rw content are, refl) in
     subst (λ ys. Joined ys ns) (sym one.1) joined
 
-tags_joined : (xs : List Entry) (tags : List ℕ) → AllByRecursion (λ n. n < 2 ^ 32) tags → map plain_of xs ≡ tags_fields tags
-    → Joined xs tags
-tags_joined xs [] small h = rw (none_of xs h) refl
-tags_joined xs (t ∷ ts) small h = packed_joined xs TAGS (t ∷ ts) small h
+tags_joined : (xs : List Entry) (d tags : List ℕ) → ArePacked d tags → map plain_of xs ≡ packed_tags d → Joined xs tags
+tags_joined xs [] tags are h = rw (none_of xs h) (sym (packed_function_only [] tags are).1 ∙ packed_none)
+tags_joined xs (b ∷ bs) tags are h = packed_joined xs TAGS (b ∷ bs) tags are h
+
+-- the forms of fields
+pub parts_forms : (xs : List Entry) (id : Option ℕ) (d : List ℕ) (kind : Kind) (e : List ℕ)
+    → ((k : ℕ) → only_plain k (map plain_of xs) ≡ only_plain k (all_fields id d kind e)) → HaveForms feature_forms xs
+parts_forms xs id d kind e is = (
+  all_only (λ (x : Entry). x.number) (λ (x : Entry). HasForm any_varint x.content) ID xs
+      (id_forms (only ID xs) id (only_of_plain ID xs ∙ is ID ∙ ids_only id d kind e)),
+  (
+    all_only (λ (x : Entry). x.number) (λ (x : Entry). HasForm geom_type x.content) TYPE xs
+        (type_forms (only TYPE xs) kind (only_of_plain TYPE xs ∙ is TYPE ∙ type_only id d kind e)),
+    tt,
+  ),
+)
+
+-- the one field of integers
+pub parts_integers : (xs : List Entry) (id : Option ℕ) (d : List ℕ) (kind : Kind) (e : List ℕ)
+    → ((k : ℕ) → only_plain k (map plain_of xs) ≡ only_plain k (all_fields id d kind e))
+    → (x : Entry) × (only GEOMETRY xs ≡ x ∷ []) × (x.content ≡ bytes e)
+parts_integers xs id d kind e is =
+    let one = mapped_one plain_of (only GEOMETRY xs) (plain GEOMETRY (bytes e))
+    (only_of_plain GEOMETRY xs ∙ is GEOMETRY ∙ integers_only id d kind e) in
+    (one.0, one.1, ap (λ (p : Plain). p.content) one.2)
+
+-- a feature, whatever spellings its packed numbers have, and its tags
+pub parts_read : (xs : List Entry) (keys : List (List ℕ)) (values : List Value) (kind : Kind) (d e tags integers : List ℕ) (f : Feature)
+    → ((k : ℕ) → only_plain k (map plain_of xs) ≡ only_plain k (all_fields f.id d kind e)) → ArePacked d tags → ArePacked e integers
+    → Resolved keys values tags f.attributes → Draws kind integers f.geometry
+    → IsFeature xs keys values f × Joined (only TAGS xs) tags
+parts_read xs keys values kind d e tags integers f is are integers_are resolved draws =
+    let ids = only_of_plain ID xs ∙ is ID ∙ ids_only f.id d kind e in
+    let types = only_of_plain TYPE xs ∙ is TYPE ∙ type_only f.id d kind e in
+    let all_tags = tags_joined (only TAGS xs) d tags are (only_of_plain TAGS xs ∙ is TAGS ∙ tags_only f.id d kind e) in (
+      record {
+        forms = parts_forms xs f.id d kind e is;
+        id = sym (id_last (only ID xs) f.id ids);
+        tags = tags;
+        tags_are = all_tags;
+        attributes = resolved;
+        integers = integers;
+        integers_are = packed_joined (only GEOMETRY xs) GEOMETRY e integers integers_are
+            (only_of_plain GEOMETRY xs ∙ is GEOMETRY ∙ integers_only f.id d kind e);
+        geometry = subst (λ k. Draws k integers f.geometry) (sym (type_last (only TYPE xs) kind types)) draws;
+      },
+      all_tags,
+    )
+
+-- packed tags
+pub tags_packed : (tags b : List ℕ) → b ≡ short_numbers tags → packed_tags b ≡ tags_fields tags
+tags_packed [] b is = ap packed_tags is
+tags_packed (tag ∷ tags) [] is = absurd (omega (arith, ap length is, short_lengths_numbers (tag ∷ tags)))
+tags_packed (tag ∷ tags) (x ∷ xs) is = ap (λ d. plain TAGS (bytes d) ∷ []) is
 
 pub feature_reads : (xs : List Entry) (keys : List (List ℕ)) (values : List Value) (tags : List ℕ) (f : Feature)
     → ((k : ℕ) → only_plain k (map plain_of xs) ≡ only_plain k (feature_fields tags f)) → Names keys values tags f.attributes
@@ -231,30 +282,11 @@ pub feature_reads : (xs : List Entry) (keys : List (List ℕ)) (values : List Va
 feature_reads xs keys values tags f is names small valid low =
     let kind = kind_of f.geometry in
     let integers = drawn f.geometry in
-    let ids = only_of_plain ID xs ∙ is ID ∙ ids_only f.id tags kind integers in
-    let types = only_of_plain TYPE xs ∙ is TYPE ∙ type_only f.id tags kind integers in
-    record {
-      forms = (
-        all_only (λ (x : Entry). x.number) (λ (x : Entry). HasForm any_varint x.content) ID xs
-            (id_forms (only ID xs) f.id ids),
-        (
-          all_only (λ (x : Entry). x.number) (λ (x : Entry). HasForm geom_type x.content) TYPE xs
-              (type_forms (only TYPE xs) kind types),
-          tt,
-        ),
-      );
-      id = sym (id_last (only ID xs) f.id ids);
-      tags = tags;
-      tags_are =
-          tags_joined (only TAGS xs) tags small
-          (only_of_plain TAGS xs ∙ is TAGS ∙ tags_only f.id tags kind integers);
-      attributes = record { named = names; distinct = valid.distinct };
-      integers = integers;
-      integers_are =
-          packed_joined (only GEOMETRY xs) GEOMETRY integers low
-          (only_of_plain GEOMETRY xs ∙ is GEOMETRY ∙ integers_only f.id tags kind integers);
-      geometry = record { same_kind = type_last (only TYPE xs) kind types; valid = valid.drawn; spelled = refl };
-    }
+    let rest = type_fields kind ++ plain GEOMETRY (bytes (short_numbers integers)) ∷ [] in
+    (parts_read xs keys values kind (short_numbers tags) (short_numbers integers) tags integers f
+    (λ k. is k ∙ ap (λ ts. only_plain k (id_fields f.id ++ (ts ++ rest))) (sym (tags_packed tags (short_numbers tags) refl)))
+    (short_packed_packed tags small) (short_packed_packed integers low) (record { named = names; distinct = valid.distinct })
+    (record { same_kind = refl; valid = valid.drawn; spelled = refl })).0
 
 -- the fields of a feature can be spelled
 bytes_fit : (k : ℕ) (d : List ℕ) (n : ℕ) → 1 ≤ k → k < 2 ^ 29 → length (short_field k (bytes d)) ≤ n → n < 2 ^ 64

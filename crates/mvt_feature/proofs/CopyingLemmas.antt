@@ -5,7 +5,6 @@ use Rattle.mvt_wire.specs.Packed.{SplitNumbers, packed, packed_within}
 use Rattle.mvt_wire.specs.Spelling.{short_numbers}
 use Rattle.mvt_wire.specs.Varint.{short}
 use Rattle.mvt_feature.specs.Ranges.{AreBytes}
-use Rattle.mvt_wire.specs.Field.{Content, bytes}
 use Rattle.mvt_wire.specs.Split.{split}
 use Rattle.mvt_attrs.specs.declared.value.Value.{Value}
 use Rattle.mvt_geometry.specs.Drawing.{drawn}
@@ -13,7 +12,6 @@ use Rattle.mvt_feature.specs.declared.feature.Feature.{Feature}
 use Rattle.mvt_feature.specs.declared.numbers.feature.TheConstants.{GEOMETRY}
 use Rattle.mvt_feature.specs.Features.{IsFeatureOf}
 use Rattle.mvt_feature.specs.FeatureRules.{joined}
-use Rattle.mvt_feature.specs.Inner.{numbers_at}
 use Rattle.mvt_feature.specs.Selection.{only}
 use Rattle.mvt_feature.proofs.FeatureLemmas.{all_joined_are}
 use Rattle.mvt_feature.proofs.RangeLemmas.{bytes_front, bytes_back}
@@ -46,11 +44,6 @@ copied b are len = only_short b (packed b).numbers (packed b).rest (packed_split
 pub packed_none : (packed []).numbers ≡ []
 unfolding packed packed_within
 packed_none = refl
-
--- a piece after an empty one
-pub piece_alone : (old new : List ℕ) (number : ℕ) (c : Content) → old ≡ [] → number ≡ GEOMETRY → c ≡ bytes new
-    → (packed new).numbers ≡ (packed old).numbers ++ numbers_at GEOMETRY number c
-piece_alone old new number c none is content = rw (none, is, content, packed_none) refl
 
 -- the integers of a feature's fields draw its geometry
 pub drawn_as_joined : {payload : List ℕ} {keys : List (List ℕ)} {values : List Value} {f : Feature} → IsFeatureOf payload keys values f

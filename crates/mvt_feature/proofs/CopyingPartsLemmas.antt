@@ -21,15 +21,16 @@ use Rattle.mvt_wire.specs.Zigzag.{unzig}
 use Rattle.mvt_feature.specs.declared.canonical_feature.CanonicalFeature.{CanonicalFeature}
 use Rattle.mvt_feature.specs.declared.canonical_feature.Parts.{Parts}
 use Rattle.mvt_feature.specs.declared.feature.Feature.{Feature}
-use Rattle.mvt_feature.specs.declared.numbers.feature.TheConstants.{TAGS, GEOMETRY}
+use Rattle.mvt_feature.specs.declared.numbers.feature.TheConstants.{GEOMETRY}
 use Rattle.mvt_feature.specs.declared.numbers.value.TheConstants.{FLOAT, DOUBLE, INT, UINT, SINT, BOOL}
 use Rattle.mvt_feature.specs.Canonical.{plain, field_of_value, id_fields, tags_fields, type_fields, drawing_fields, feature_fields}
-use Rattle.mvt_feature.specs.Copying.{AreReady, IsCanonicalAfter, IsCanonicalValue, packed_tags, parts_fields}
+use Rattle.mvt_feature.specs.Copying.{AreReady, IsCanonicalAfter, IsCanonicalValue, parts_fields}
 use Rattle.mvt_feature.specs.Ordering.{IsOfParts, IsOfPartsAfter}
 use Rattle.mvt_feature.specs.Valid.{ValidValue}
+use Rattle.mvt_feature.proofs.CanonicalLemmas.{tags_packed}
 use Rattle.mvt_feature.proofs.RangeLemmas.{signed_range, code_range, attributes_valid}
 use Rattle.mvt_attrs.proofs.AttrsLaws.{attributes_or_fault_there, tags_stay}
-use Rattle.mvt_wire.proofs.WireLaws.{zigzag_function_code, short_lengths_numbers}
+use Rattle.mvt_wire.proofs.WireLaws.{zigzag_function_code}
 
 -- a value that a field says in the canonical way
 abbrev pub SaysValue : ℕ → Content → Type 0
@@ -66,12 +67,6 @@ value_from payload number after content (value, valid, is) front whole =
       value,
       (valid, front ∙ ap (λ r. short_field number content ++ r) none ∙ ap (λ (p : Plain). spelled (p ∷ [])) (sym is)),
     )
-
--- packed tags
-tags_packed : (tags b : List ℕ) → b ≡ short_numbers tags → packed_tags b ≡ tags_fields tags
-tags_packed [] b is = ap packed_tags is
-tags_packed (tag ∷ tags) [] is = absurd (omega (arith, ap length is, short_lengths_numbers (tag ∷ tags)))
-tags_packed (tag ∷ tags) (x ∷ xs) is = ap (λ d. plain TAGS (bytes d) ∷ []) is
 
 -- a feature from its parts
 pub feature_found : (Holds : Geometry → Type 0) (p : Parts) (keys : List (List ℕ)) (held : List Value) (tags ints : List ℕ)

@@ -233,7 +233,7 @@ all_joined_are (x ∷ xs) ns (front, back, is, numbers, more) =
     let later = all_joined_are xs back more in
     ((here.0, later.0), is ∙ ap₂ (λ f b. f ++ b) here.1 later.1)
 
-packed_small : (d ns : List ℕ) → ArePacked d ns → AllByRecursion (λ n. n < 2 ^ 32) ns
+pub packed_small : (d ns : List ℕ) → ArePacked d ns → AllByRecursion (λ n. n < 2 ^ 32) ns
 packed_small d [] h = tt
 packed_small d (n ∷ ns) (front, back, is, spells, small, more) = (small, packed_small back ns more)
 

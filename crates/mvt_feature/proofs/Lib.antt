@@ -13,7 +13,6 @@ mod WritingLemmas
 mod RewritingLemmas
 mod CopyingLemmas
 mod CopyingPartsLemmas
-mod ShortLemmas
 mod CanonicalLemmas
 mod OrderingLemmas
 mod ValidLemmas

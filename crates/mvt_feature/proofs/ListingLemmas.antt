@@ -1,5 +1,5 @@
 -- Fields of tags and of integers, at whose numbers memory may run out.
-use Rattle.std.proofs.Common.{◌≡◌, ◌⊎◌, ℕ, ◌<◌, ◌==◌, false, List, [], ◌∷◌, ◌++◌, length, Option, Some, None, Ok, Bor, inl, inr, refl, sym, ap, subst, ◌∙◌, append_assoc, arith}
+use Rattle.std.proofs.Common.{◌≡◌, ◌⊎◌, ℕ, ◌<◌, ◌==◌, false, List, [], ◌∷◌, ◌++◌, length, Option, Some, None, Ok, inl, inr, refl, sym, ap, subst, ◌∙◌, arith}
 use Rattle.std.specs.Option.{option_or}
 use Rattle.std.proofs.lemmas.Bool.{cases_eq, ne_eqb}
 use Rattle.mvt_base.specs.Rules.{each, first}
@@ -17,7 +17,6 @@ use Rattle.mvt_feature.specs.declared.message_error.MessageError.TheVariants.{Me
 use Rattle.mvt_feature.specs.declared.numbers.feature.TheConstants.{TAGS, GEOMETRY}
 use Rattle.mvt_feature.specs.FeatureRules.{feature_field_rules, joined}
 use Rattle.mvt_feature.specs.Faults.{of_tag_error, of_geometry_error}
-use Rattle.mvt_feature.specs.Inner.{AreUsualSoFar, IsBegun}
 use Rattle.mvt_feature.specs.Listing.{ListsNumbers}
 use Rattle.mvt_feature.specs.Walks.{Walk}
 use Rattle.mvt_feature.proofs.FeatureLemmas.{Says}
@@ -83,36 +82,6 @@ tags_listed {payload} {payload_at} says many =
         listed = inl number;
       };
     }
-
--- one field more
-pub begun_more : (payload_at : ℕ) (done : List Entry) (integers : Option (Bor (List ℕ))) (x : Entry) → IsBegun payload_at done integers
-    → IsBegun payload_at (done ++ x ∷ []) integers
-begun_more payload_at done None x begun = tt
-begun_more payload_at done (Some d) x begun = record {
-  before = begun.before;
-  field = begun.field;
-  after = begun.after ++ x ∷ [];
-  fields_are = ap (λ l. l ++ x ∷ []) begun.fields_are ∙ append_assoc begun.before (begun.field ∷ begun.after) (x ∷ []);
-  unbroken = begun.unbroken;
-  listed = begun.listed;
-}
-
--- the first of the integers
-pub begun_here : (payload_at : ℕ) (done : List Entry) (known : FeatureFields) (tags : List ℕ) (before : Option (Bor (List ℕ)))
-    (d : Bor (List ℕ)) (x : Entry) → AreUsualSoFar payload_at done known tags before → before ≡ None → x.number ≡ GEOMETRY
-    → IsBegun payload_at (done ++ x ∷ []) (Some d)
-begun_here payload_at done known tags before d x so_far none number = record {
-  before = done;
-  field = x;
-  after = [];
-  fields_are = refl;
-  unbroken = ((rw none at so_far) [] refl).0;
-  listed = inr number;
-}
-
-pub begun_lists : (payload : List ℕ) (payload_at : ℕ) (d : Bor (List ℕ)) → (split payload).rest ≡ []
-    → IsBegun payload_at (split payload).fields (Some d) → ListsNumbers payload payload_at
-begun_lists payload payload_at d whole begun = record { whole = whole; listed = begun }
 
 -- errors of want of memory
 pub tag_memory : (e : TagError) → of_tag_error e ≡ Memory → e ≡ tag_errors.Memory

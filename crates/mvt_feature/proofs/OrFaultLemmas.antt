@@ -52,7 +52,7 @@ feature_there payload payload_at keys values h =
     (f, feature_from says keys values f refl attributes.1 geometry.1)
 
 -- the grammar keeps the rules
-numbers_clean : (x : Entry) → (x.number ≡ TAGS → IsListOf x) → (x.number ≡ GEOMETRY → IsListOf x)
+pub numbers_clean : (x : Entry) → (x.number ≡ TAGS → IsListOf x) → (x.number ≡ GEOMETRY → IsListOf x)
     → AllByRecursion (λ (known : ℕ × Form). x.number ≡ known.0 → HasForm known.1 x.content) feature_forms
     → first (feature_form_rules x.number x.content) ≡ None
 numbers_clean x tags integers known =

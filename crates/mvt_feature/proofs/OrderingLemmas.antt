@@ -213,7 +213,7 @@ only_as_contents k (p ∷ ps) = by_test (p.number == k) refl (only_as_contents k
     by_test true e h = ap₂ (λ n l. plain n p.content ∷ l) (eqb-true p.number k e) h
     by_test false e h = h
 
-only_alike : (ps qs : List Plain) → AreAlike ps qs → (k : ℕ) → only_plain k ps ≡ only_plain k qs
+pub only_alike : (ps qs : List Plain) → AreAlike ps qs → (k : ℕ) → only_plain k ps ≡ only_plain k qs
 only_alike ps qs alike k = only_as_contents k ps ∙ ap (map (plain k)) (alike k) ∙ sym (only_as_contents k qs)
 
 -- the feature whose parts stand in any order, put in order

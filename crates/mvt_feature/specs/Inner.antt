@@ -1,13 +1,11 @@
 -- Definitions between private functions, which no public contract cites.
-use Rattle.std.specs.Prelude.{◌≡◌, ◌≢◌, ℕ, ◌≤◌, ◌==◌, true, false, List, [], ◌∷◌, Option, Some, None, Result, Ok, if◌then◌else◌}
-use Rattle.std.specs.Borrow.{Bor}
+use Rattle.std.specs.Prelude.{◌≡◌, ◌≢◌, ℕ, ◌==◌, true, false, List, [], Option, Some, None, Result, if◌then◌else◌}
 use Rattle.std.specs.List.{last_or}
 use Rattle.mvt_attrs.specs.declared.value.Value.{Value}
 use Rattle.mvt_attrs.specs.Tags.{Resolved}
 use Rattle.mvt_geometry.specs.declared.shape.Kind.{Kind}
 use Rattle.mvt_geometry.specs.Drawing.{Draws}
 use Rattle.mvt_wire.specs.Field.{Content, Entry}
-use Rattle.mvt_wire.specs.Packed.{ArePacked}
 use Rattle.mvt_feature.specs.declared.numbers.feature.TheConstants.{ID, TAGS, TYPE, GEOMETRY}
 use Rattle.mvt_feature.specs.declared.message_error.MessageError.{MessageError}
 use Rattle.mvt_feature.specs.declared.feature.Feature.{Feature}
@@ -19,7 +17,6 @@ use Rattle.mvt_feature.specs.declared.value.Kinds.TheVariants.{Nothing, One, Sev
 use Rattle.mvt_feature.specs.ValueRefs.{referred_value}
 use Rattle.mvt_feature.specs.Features.{number_of, number_in, kind_of_type, IsFeatureOf}
 use Rattle.mvt_feature.specs.FeatureRules.{numbers_of, joined, kind_in, feature_field_rules}
-use Rattle.mvt_feature.specs.Listing.{IsListedIn}
 use Rattle.mvt_feature.specs.Selection.{last_only}
 use Rattle.mvt_feature.specs.Values.{Means}
 use Rattle.mvt_feature.specs.Walks.{IsSoFar}
@@ -71,21 +68,6 @@ abbrev pub AreFeatureFieldsSoFar : ℕ → List Entry → Result FeatureFields M
 AreFeatureFieldsSoFar payload_at done known tags integers =
     IsSoFar (feature_field_rules payload_at) (λ fields k. AreFeatureFields fields k tags integers) done known
 
--- integers are packed in these bytes; without bytes there are none
-abbrev pub ArePackedIn : Option (Bor (List ℕ)) → List ℕ → Type 0
-ArePackedIn None integers = integers ≡ []
-ArePackedIn (Some d) integers = ArePacked d.now integers
-
--- what is known by the fields so far, whatever integers these bytes pack
-abbrev pub AreUsualSoFar : ℕ → List Entry → FeatureFields → List ℕ → Option (Bor (List ℕ)) → Type 0
-AreUsualSoFar payload_at done known tags packed =
-    (integers : List ℕ) → ArePackedIn packed integers → AreFeatureFieldsSoFar payload_at done (Ok known) tags integers
-
--- the field that has these integers, if there is one, is listed
-abbrev pub IsBegun : ℕ → List Entry → Option (Bor (List ℕ)) → Type 0
-IsBegun payload_at done None = Unit {0}
-IsBegun payload_at done (Some d) = IsListedIn payload_at done
-
 -- the tags and the integers in a scratch, with what is known besides, are those of this feature
 pub record AreOf (keys : List (List ℕ)) (values : List Value) (known : FeatureFields) (scratch : Scratch) (f : Feature) : Type 0 where
   pub id : f.id ≡ known.id
@@ -94,8 +76,3 @@ pub record AreOf (keys : List (List ℕ)) (values : List Value) (known : Feature
 
 abbrev pub IsJudged : List ℕ → List (List ℕ) → List Value → FeatureFields → Scratch → Type 0
 IsJudged payload keys values known scratch = (f : Feature) × IsFeatureOf payload keys values f × AreOf keys values known scratch f
-
--- no byte of 0 follows one that doesn't end its number, the byte before included
-abbrev pub AreShortFrom : ℕ → List ℕ → Type 0
-AreShortFrom before [] = Unit {0}
-AreShortFrom before (b ∷ bs) = (128 ≤ before → 1 ≤ b) × AreShortFrom b bs

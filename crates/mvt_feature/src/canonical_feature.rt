@@ -15,15 +15,11 @@ ghost use Rattle.mvt_feature.specs.Ordering.{IsOfPartsAfter};
 ghost use Rattle.mvt_feature.specs.Copying.{IsCanonicalValue, IsCanonicalAfter, packed_tags, parts_fields};
 ghost use Rattle.mvt_feature.specs.Valid.{ValidValue};
 
-use crate::copied_integers::are_shortest;
 use crate::feature_fields::FeatureFields;
 use crate::numbers::{feature, value};
-use crate::scratch::Scratch;
-use mvt_attrs::{LayerKeys, TagError, first_uses, judge_tags};
+use mvt_attrs::{LayerKeys, PackedTags, UseOrder, judge_packed};
 use mvt_geometry::{GeometryVisitor, Kind, draw_packed};
-use mvt_wire::{
-    PackedError, Payload, append_packed, short_bytes_at, short_field_at, short_number_at,
-};
+use mvt_wire::{Payload, are_short, short_bytes_at, short_field_at, short_number_at};
 use std::alloc::{AllocError, Global};
 use std::str;
 
@@ -188,41 +184,6 @@ pub(crate) fn kind_from(payload: &[u8], at: usize) -> Option<(Kind, usize)>
     }
 }
 
-/// Leaves in a list the numbers whose shortest spellings these bytes are.
-fn take_numbers(bytes: &[u8], numbers: &mut Vec<u32>) -> Result<(), NotCanonical>
-    ensures { OnOk result ((bytes.now ≡ short_numbers numbers.new.items)
-        × AllByRecursion (λ n. n < 2 ^ 32) numbers.new.items) }
-{
-    numbers.clear();
-    match append_packed(bytes, numbers) {
-        Ok(()) => {
-            if are_shortest(bytes, numbers) {
-                return Ok(());
-            }
-            Err(NotCanonical::Other)
-        }
-        Err(PackedError::Memory) => Err(NotCanonical::Memory),
-        Err(_) => Err(NotCanonical::Broken),
-    }
-}
-
-/// Whether no spelling of a number among these bytes is longer than need be: no byte of 0 ends one
-/// of several bytes.
-#[inline(never)]
-fn are_short(bytes: &[u8]) -> bool
-    ensures { IsTrue result → (numbers : List ℕ) → ArePacked bytes.now numbers
-        → bytes.now ≡ short_numbers numbers }
-{
-    let mut before = 0;
-    for byte in bytes {
-        if *byte == 0 && before >= 128 {
-            return false;
-        }
-        before = *byte;
-    }
-    true
-}
-
 /// What is known of a canonical feature.
 #[derive(Clone, Copy, Debug)]
 pub struct CanonicalFeature {
@@ -233,7 +194,7 @@ pub struct CanonicalFeature {
 
 /// Judges whether a payload is the canonical one of a feature, in a layer with these keys and this
 /// number of values, if earlier features use this many of them and each new one is the next. The
-/// geometry is passed to a visitor on the way.
+/// geometry is passed to a visitor on the way; then the tags are judged.
 ///
 /// # Errors
 ///
@@ -245,7 +206,6 @@ pub fn judge_canonical<V: GeometryVisitor>(
     keys: &mut LayerKeys<'_>,
     values: usize,
     used: (usize, usize),
-    scratch: &mut Scratch,
 ) -> Result<CanonicalFeature, NotCanonical>
     ensures found { IfOk result (λ known. (held : List AValue) → length held ≡ values
         → IsCanonicalAfter payload.now keys.old held used
@@ -255,7 +215,7 @@ pub fn judge_canonical<V: GeometryVisitor>(
     ensures same { keys.new ≡ keys.old }
 {
     match parts_of(payload) {
-        Some(parts) => judge_parts(alloc, visitor, &parts, keys, values, used, scratch),
+        Some(parts) => judge_parts(alloc, visitor, &parts, keys, values, used),
         None => Err(NotCanonical::Other),
     }
 }
@@ -268,7 +228,6 @@ pub(crate) fn judge_parts<V: GeometryVisitor>(
     keys: &mut LayerKeys<'_>,
     values: usize,
     used: (usize, usize),
-    scratch: &mut Scratch,
 ) -> Result<CanonicalFeature, NotCanonical>
     requires id { IfSome parts.now.id (λ n. n < 2 ^ 64) }
     requires kind { parts.now.kind ≢ kinds.Unknown }
@@ -279,28 +238,25 @@ pub(crate) fn judge_parts<V: GeometryVisitor>(
         × (begun : List APoint) × V.has_parts visitor.old parts begun visitor.new) }
     ensures same { keys.new ≡ keys.old }
 {
-    take_numbers(parts.tags, &mut scratch.tags)?;
-    let (used_keys, used_values) = used;
-    let Some(after) = first_uses(&scratch.tags, used_keys, used_values) else {
-        return Err(NotCanonical::Other);
-    };
-    let is_drawn = draw_packed(visitor, parts.kind, parts.integers)?;
-    if !is_drawn {
+    if !draw_packed(visitor, parts.kind, parts.integers)? {
         return Err(NotCanonical::Broken);
     }
     if !are_short(parts.integers) {
         return Err(NotCanonical::Other);
     }
-    match judge_tags(alloc, keys, values, &scratch.tags) {
-        Ok(()) => {}
-        Err(TagError::Memory) => return Err(NotCanonical::Memory),
-        Err(_) => return Err(NotCanonical::Broken),
+    let mut order = UseOrder {
+        keys: used.0,
+        values: used.1,
+    };
+    match judge_packed(alloc, &mut order, keys, values, parts.tags)? {
+        PackedTags::Good { is_short: true } => Ok(CanonicalFeature {
+            fields: FeatureFields {
+                id: parts.id,
+                kind: parts.kind,
+            },
+            used: (order.keys, order.values),
+        }),
+        PackedTags::Broken => Err(NotCanonical::Broken),
+        _ => Err(NotCanonical::Other),
     }
-    Ok(CanonicalFeature {
-        fields: FeatureFields {
-            id: parts.id,
-            kind: parts.kind,
-        },
-        used: after,
-    })
 }

@@ -1,20 +1,20 @@
 //! The integers of a feature, copied where they stand as they are to be written (Mapbox Vector Tile
 //! Specification 2.1, 4.3).
-ghost use Rattle.std.specs.Prelude.{◌≡◌, ◌++◌, IfSome, IsTrue, OnErr, OnOk};
+ghost use Rattle.std.specs.Prelude.{◌≡◌, ◌++◌, IsTrue, OnErr, OnOk};
 ghost use Rattle.mvt_base.specs.Related.{Extends};
-ghost use Rattle.mvt_wire.specs.Field.{bytes as in_bytes, content_of};
+ghost use Rattle.mvt_wire.specs.Field.{bytes as in_bytes};
 ghost use Rattle.mvt_wire.specs.Packed.{packed};
 ghost use Rattle.mvt_wire.specs.Spelling.{short_field, short_numbers, spelled};
 ghost use Rattle.mvt_wire.specs.Split.{split};
 ghost use Rattle.mvt_feature.specs.declared.numbers.feature.TheConstants.{GEOMETRY};
 ghost use Rattle.mvt_feature.specs.Canonical.{id_fields, tags_fields, drawing_fields};
 ghost use Rattle.mvt_feature.specs.FeatureRules.{joined};
-ghost use Rattle.mvt_feature.specs.Inner.{numbers_at};
 
 use crate::numbers::feature;
+use crate::ordered_feature::parts_in_any_order;
 use crate::writing::append_front;
 use mvt_geometry::Kind;
-use mvt_wire::{Field, Fields, Payload, packed_len, put_field, put_packed};
+use mvt_wire::{Payload, packed_len, put_field, put_packed};
 use std::alloc::AllocError;
 
 /// Fewer integers are spelled anew, which takes less time than a look for their field.
@@ -50,51 +50,18 @@ fn append_packed(out: &mut Vec<u8>, payload: &[u8], integers: &[u32]) -> Result<
     if integers.len() < LEAST_COPIED {
         return put_packed(out, feature::GEOMETRY, integers);
     }
-    match one_piece(payload) {
-        Some(bytes) if are_shortest(bytes, integers) => {
-            put_field(out, feature::GEOMETRY, &Payload::Len(bytes))
+    match parts_in_any_order(payload) {
+        Some(parts) if are_shortest(parts.integers, integers) => {
+            put_field(out, feature::GEOMETRY, &Payload::Len(parts.integers))
         }
         _ => put_packed(out, feature::GEOMETRY, integers),
     }
 }
 
 /// Whether bytes that spell these numbers are their shortest spellings.
-pub(crate) fn are_shortest(bytes: &[u8], numbers: &[u32]) -> bool
+fn are_shortest(bytes: &[u8], numbers: &[u32]) -> bool
     ensures { (packed bytes.now).numbers ≡ numbers.now → IsTrue result
         → bytes.now ≡ short_numbers numbers.now }
 {
     bytes.len() as u64 == packed_len(numbers)
-}
-
-/// The bytes in which all integers of a payload's feature are packed, where one field has them.
-fn one_piece(payload: &[u8]) -> Option<&[u8]>
-    ensures { IfSome result (λ bytes. (packed bytes.now).numbers
-        ≡ joined GEOMETRY (split payload.now).fields) }
-{
-    let mut piece: &[u8] = &[];
-    for field in Fields::new(payload) {
-        match field {
-            Ok(field) => piece = piece_with(piece, &field)?,
-            Err(_) => return None,
-        }
-    }
-    Some(piece)
-}
-
-/// The same with one more field.
-#[inline(always)]
-fn piece_with<'a>(piece: &'a [u8], field: &Field<'a>) -> Option<&'a [u8]>
-    ensures { IfSome result (λ bytes. (packed bytes.now).numbers ≡ (packed piece.now).numbers
-        ++ numbers_at GEOMETRY field.now.number (content_of field.now.payload)) }
-{
-    if field.number != feature::GEOMETRY {
-        return Some(piece);
-    }
-    if !piece.is_empty() {
-        return None;
-    }
-    match field.payload {
-        Payload::Len(bytes) => Some(bytes),
-        Payload::Varint(_) | Payload::I64(_) | Payload::I32(_) => None,
-    }
 }

@@ -76,7 +76,7 @@ pub(crate) fn read_fields(
 /// What the fields in front say, where they are the id, the tags and the type in this order. The
 /// lists of the scratch are begun anew.
 #[inline(always)]
-pub(crate) fn read_front(
+fn read_front(
     fields: &mut Fields<'_>,
     payload: &[u8],
     payload_at: u64,
@@ -142,7 +142,7 @@ impl FeatureFields {
 
     /// What is known with one more field, which is told to stand at this place.
     #[inline(always)]
-    pub(crate) fn with(
+    fn with(
         self,
         field: &Field<'_>,
         at: u64,

@@ -13,7 +13,6 @@ ghost use Rattle.mvt_feature.specs.Ordering.{AreMet, IsInAnyOrder, IsOrdered};
 use crate::canonical_feature::{NotCanonical, Parts, judge_parts, kind_from};
 use crate::feature_fields::{GEOMETRY_TAG, ID_TAG, TAGS_TAG, TYPE_TAG};
 use crate::numbers::feature;
-use crate::scratch::Scratch;
 use crate::writing::{append_id, type_number};
 use mvt_attrs::LayerKeys;
 use mvt_geometry::{Ignore, Kind};
@@ -41,7 +40,6 @@ pub fn order_feature(
     keys: &mut LayerKeys<'_>,
     values: usize,
     used: (usize, usize),
-    scratch: &mut Scratch,
     out: &mut Vec<u8>,
 ) -> Result<(usize, usize), NotCanonical>
     ensures ordered { IfOk result (λ after. (held : List AValue) → length held ≡ values
@@ -53,14 +51,14 @@ pub fn order_feature(
     let Some(parts) = parts_in_any_order(payload) else {
         return Err(NotCanonical::Other);
     };
-    let known = judge_parts(alloc, &mut Ignore, &parts, keys, values, used, scratch)?;
+    let known = judge_parts(alloc, &mut Ignore, &parts, keys, values, used)?;
     append_parts(out, &parts)?;
     Ok(known.used)
 }
 
 /// The parts of a payload whose fields are these, in any order. `Some` means that each stands once;
 /// `None` costs speed alone.
-fn parts_in_any_order(payload: &[u8]) -> Option<Parts<'_>>
+pub(crate) fn parts_in_any_order(payload: &[u8]) -> Option<Parts<'_>>
     ensures parts { IfSome result (IsInAnyOrder payload.now) }
     ensures id { IfSome result (λ parts. IfSome parts.id (λ n. n < 2 ^ 64)) }
     ensures kind { IfSome result (λ parts. parts.kind ≢ kinds.Unknown) }

@@ -27,11 +27,8 @@ pub struct Scratch {
     pub(crate) written_integers: PackedNumbers,
 }
 
-/// How many tags a scratch has room for at first, and one for writing how many integers.
+/// How many tags and integers a scratch for writing has room for at first.
 const FIRST_ROOM: usize = 32;
-
-/// How many integers a scratch for a payload has room for at first, at most.
-const FIRST_INTEGERS: usize = 512;
 
 impl Scratch {
     /// A scratch that has taken no memory yet.
@@ -58,19 +55,6 @@ impl Scratch {
         ensures { result.now ≡ integers_of self.now }
     {
         &self.integers
-    }
-
-    /// A scratch for the features of a payload of so many bytes, whose lists needn't grow for small
-    /// ones.
-    ///
-    /// # Errors
-    ///
-    /// When memory runs out.
-    pub fn for_payload(alloc: Global, bytes: usize) -> Result<Self, AllocError> {
-        let mut scratch = Scratch::new(alloc);
-        scratch.tags.reserve(bytes.min(FIRST_ROOM))?;
-        scratch.integers.reserve(bytes.min(FIRST_INTEGERS))?;
-        Ok(scratch)
     }
 
     /// A scratch for writing, whose lists needn't grow for a small feature.

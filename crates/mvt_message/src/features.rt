@@ -57,7 +57,7 @@ pub(crate) fn visit_features<V: LayerVisitor>(
         (features_fault payload_at keys.now held (split payload.now).fields)) }
 {
     let mut keys = LayerKeys::new(alloc, keys);
-    let mut scratch = Scratch::for_payload(alloc, payload.len())?;
+    let mut scratch = Scratch::new(alloc);
     let mut count = 0usize;
     for field in Fields::new(payload) {
         if count == features {

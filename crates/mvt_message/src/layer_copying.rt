@@ -23,7 +23,7 @@ use crate::numbers::layer;
 use crate::resuming::{OrderedLayer, written_layer};
 use mvt_attrs::{LayerKeys, are_distinct};
 use mvt_base::{LIMIT, Text};
-use mvt_feature::{NotCanonical, Scratch, is_canonical_value, judge_canonical};
+use mvt_feature::{NotCanonical, is_canonical_value, judge_canonical};
 use mvt_geometry::Ignore;
 use mvt_wire::{field_len, short_bytes_at};
 use std::alloc::{AllocError, Global};
@@ -423,21 +423,11 @@ fn judge_features<V: CanonicalVisitor>(
 {
     let values = front.values.len();
     let mut layer_keys = LayerKeys::new(alloc, keys);
-    let mut scratch = Scratch::new(alloc);
     let mut used = (0, 0);
     let mut at = start;
     let end = copies_end(front, start);
     while at < end {
-        match take_feature(
-            alloc,
-            visitor,
-            body,
-            at,
-            &mut layer_keys,
-            values,
-            used,
-            &mut scratch,
-        ) {
+        match take_feature(alloc, visitor, body, at, &mut layer_keys, values, used) {
             Ok((after, more)) => {
                 at = after;
                 used = more;
@@ -492,7 +482,6 @@ fn take_feature<V: CanonicalVisitor>(
     keys: &mut LayerKeys<'_>,
     values: usize,
     used: (usize, usize),
-    scratch: &mut Scratch,
 ) -> Result<(usize, (usize, usize)), NotCanonical>
     requires { at ≤ length body.now }
     ensures feature { IfOk result (λ f. (items : List Item) (start : ℕ) (held : List AValue)
@@ -505,7 +494,7 @@ fn take_feature<V: CanonicalVisitor>(
     let Some((payload, after)) = short_bytes_at(body, at, layer::FEATURES) else {
         return Err(NotCanonical::Other);
     };
-    let known = judge_canonical(alloc, visitor, payload, keys, values, used, scratch)?;
+    let known = judge_canonical(alloc, visitor, payload, keys, values, used)?;
     visitor.end_feature(alloc, &known.fields)?;
     Ok((after, known.used))
 }

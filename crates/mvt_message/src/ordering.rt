@@ -10,7 +10,7 @@ use crate::layer_writer::LayerWriter;
 use crate::looking::stands_in_order;
 use crate::numbers::layer;
 use mvt_attrs::LayerKeys;
-use mvt_feature::{NotCanonical, Scratch, order_feature};
+use mvt_feature::{NotCanonical, order_feature};
 use mvt_wire::{Payload, put_field, short_bytes_at};
 use std::alloc::Global;
 
@@ -35,20 +35,10 @@ pub(crate) fn order_from(
     }
     let values = part.front.values.len();
     let mut keys = LayerKeys::new(alloc, &part.keys);
-    let mut scratch = Scratch::new(alloc);
     let mut used = part.reached.used;
     let mut at = part.reached.at;
     while at < part.features_end {
-        match order_next(
-            alloc,
-            body,
-            at,
-            &mut keys,
-            values,
-            used,
-            writer,
-            &mut scratch,
-        ) {
+        match order_next(alloc, body, at, &mut keys, values, used, writer) {
             Ok((after, more)) => {
                 at = after;
                 used = more;
@@ -70,7 +60,6 @@ fn order_next(
     values: usize,
     used: (usize, usize),
     writer: &mut LayerWriter,
-    scratch: &mut Scratch,
 ) -> Result<(usize, (usize, usize)), NotCanonical>
     requires { at ≤ length body.now }
     ensures feature { IfOk result (λ f. (held : List AValue) (start : ℕ) → length held ≡ values
@@ -89,7 +78,7 @@ fn order_next(
         ..
     } = writer;
     canonical.clear();
-    let more = order_feature(alloc, payload, keys, values, used, scratch, canonical)?;
+    let more = order_feature(alloc, payload, keys, values, used, canonical)?;
     put_field(features, layer::FEATURES, &Payload::Len(canonical))?;
     Ok((after, more))
 }

@@ -140,7 +140,7 @@ fn write_behind(
     ensures { OnOk result (IsWrittenUpTo body.now part.now part.now.features_end writer.new) }
 {
     let mut keys = LayerKeys::new(alloc, &part.keys);
-    let mut scratch = Scratch::for_payload(alloc, body.len())?;
+    let mut scratch = Scratch::new(alloc);
     let mut at = start;
     while at < part.features_end {
         at = write_next(alloc, body, at, &mut keys, writer, &mut scratch)?;

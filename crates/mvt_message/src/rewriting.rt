@@ -20,6 +20,7 @@ use crate::layer_rewriting::{Rewritten, RewrittenLayer, rewrite_parts};
 use crate::layer_writer::{put_extent, put_head};
 use crate::reading::judge_item;
 use crate::resuming::OrderedLayer;
+use crate::version::early_version;
 use mvt_base::LIMIT;
 use mvt_feature::{MessageError, NotCanonical};
 use mvt_geometry::Ignore;
@@ -53,6 +54,10 @@ pub fn rewrite_item<'a>(
         (item_fault payload.now payload_at tag_at)) }
     ensures left { OnErr result (Extends out.old.items out.new.items) }
 {
+    if let Some(_) = early_version(payload, payload_at, tag_at) {
+        out.extend_from_slice(payload)?;
+        return Ok(None);
+    }
     match known_layer(alloc, payload) {
         Ok(Known::Copied(layer)) => {
             append_copied_layer(out, &layer, payload.len())?;

@@ -1,5 +1,6 @@
 pub mod WireLaws
 mod FieldLemmas
+mod LongLemmas
 mod PackedLemmas
 mod PackedNumbersLemmas
 mod PieceLemmas

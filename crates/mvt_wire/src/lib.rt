@@ -18,7 +18,10 @@ pub use fault::{WireCause, WireFault};
 pub use field::{Field, Payload, next_field};
 pub use fields::Fields;
 pub use numbers::NumberList;
-pub use packed::{PackedError, append_packed, packed_front, packed_len, put_packed, read_packed};
+pub use packed::{
+    PackedError, PackedFront, append_packed, are_short, packed_front, packed_len, put_packed,
+    read_packed, spelled_front,
+};
 pub use packed_numbers::PackedNumbers;
 pub use short_fields::{short_bytes_at, short_field_at, short_number_at};
 pub use span::{Span, field_span};

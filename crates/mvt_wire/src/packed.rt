@@ -1,10 +1,11 @@
 //! Packed numbers (Protocol Buffers, Encoding, "Packed Repeated Fields").
-ghost use Rattle.std.specs.Prelude.{◌≡◌, ℕ, ◌+◌, ◌^◌, ◌<◌, ◌≤◌, List, [], ◌∷◌, ◌++◌, None, length, IfOk, IfErr, IfSome, IfNone, IsOk, OnOk, OnErr, vec_len, vec_capacity};
+ghost use Rattle.std.specs.Prelude.{◌≡◌, ℕ, ◌+◌, ◌^◌, ◌<◌, ◌≤◌, List, [], ◌∷◌, ◌++◌, None, length, IfOk, IfErr, IfSome, IfNone, IsOk, IsTrue, OnOk, OnErr, vec_len, vec_capacity};
 ghost use Rattle.mvt_base.specs.Reports.{Reports};
 ghost use Rattle.mvt_base.specs.Rules.{first};
 ghost use Rattle.mvt_wire.specs.Field.{bytes};
 ghost use Rattle.mvt_wire.specs.Packed.{ArePacked, packed, packed_rules, fault_of};
 ghost use Rattle.mvt_wire.specs.Spelling.{short_field, short_numbers};
+ghost use Rattle.mvt_wire.specs.Varint.{short};
 ghost use Rattle.mvt_base.specs.Related.{Extends};
 ghost use Rattle.mvt_wire.specs.Inner.{error_of};
 
@@ -110,6 +111,40 @@ fn append_numbers(bytes: &[u8], out: &mut Vec<u32>) -> Result<(), PackedError>
     Ok(())
 }
 
+/// The first of the numbers of a packed field, and the bytes after it.
+#[derive(Clone, Copy, Debug)]
+pub struct PackedFront<'a> {
+    pub number: u32,
+    /// Whether no spelling of the number is shorter.
+    pub is_short: bool,
+    pub after: &'a [u8],
+}
+
+/// The front of a packed field. `None` if it spells no number below 2^32.
+#[inline(always)]
+pub fn spelled_front(bytes: &[u8]) -> Option<PackedFront<'_>>
+    ensures number { IfSome result (λ front. (ns : List ℕ) → ArePacked front.after.now ns
+        → ArePacked bytes.now (front.number ∷ ns)) }
+    ensures short { IfSome result (λ front. IsTrue front.is_short
+        → bytes.now ≡ short front.number ++ front.after.now) }
+    ensures shorter { IfSome result (λ front. length front.after.now < length bytes.now) }
+    ensures none { IfNone result ((ns : List ℕ) → ArePacked bytes.now ns → ns ≡ []) }
+{
+    match varint_at(bytes) {
+        Ok((number, size)) => {
+            if number >= 1 << 32 {
+                return None;
+            }
+            Some(PackedFront {
+                number: number as u32,
+                is_short: size == 1 || bytes[size - 1] != 0,
+                after: &bytes[size..],
+            })
+        }
+        Err(_) => None,
+    }
+}
+
 /// The first of the numbers of a packed field, and the bytes after it. `None` if the front spells
 /// no number below 2^32.
 #[inline(always)]
@@ -119,15 +154,22 @@ pub fn packed_front(bytes: &[u8]) -> Option<(u32, &[u8])>
     ensures shorter { IfSome result (λ found. length found.1.now < length bytes.now) }
     ensures none { IfNone result ((ns : List ℕ) → ArePacked bytes.now ns → ns ≡ []) }
 {
-    match varint_at(bytes) {
-        Ok((number, size)) => {
-            if number >= 1 << 32 {
-                return None;
-            }
-            Some((number as u32, &bytes[size..]))
-        }
-        Err(_) => None,
+    let front = spelled_front(bytes)?;
+    Some((front.number, front.after))
+}
+
+/// Whether no spelling of a number among these bytes is longer than need be: no byte of 0 ends one
+/// of several bytes. All bytes are looked at, which is quick, many at once.
+#[inline(never)]
+pub fn are_short(bytes: &[u8]) -> bool
+    ensures { IsTrue result → (numbers : List ℕ) → ArePacked bytes.now numbers
+        → bytes.now ≡ short_numbers numbers }
+{
+    let mut is_long = false;
+    for i in 1..bytes.len() {
+        is_long |= (bytes[i] == 0) & (bytes[i - 1] >= 128);
     }
+    !is_long
 }
 
 /// Why a number can't be read, as an error of packed numbers.

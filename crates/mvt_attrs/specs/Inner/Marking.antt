@@ -20,14 +20,6 @@ pub record IsGrouped (texts : List (List ℕ)) (first_indices : List ℕ) : Type
   pub apart : (i j : ℕ) (a b : List ℕ) → slice_get texts i ≡ Some a → slice_get texts j ≡ Some b
       → slice_index first_indices i ≡ slice_index first_indices j → a ≡ b
 
--- the place of the first text after these places: that of an earlier one that is equal, or its index
-abbrev pub IsPlaceAfter : List (List ℕ) → List ℕ → ℕ → Type 0
-IsPlaceAfter texts first_indices place =
-    ((j : ℕ) × (j < length first_indices) × (slice_get texts j ≡ slice_get texts (length first_indices))
-    × (place ≡ slice_index first_indices j))
-    ⊎ (((j : ℕ) → j < length first_indices → slice_get texts j ≡ slice_get texts (length first_indices) → ⊥)
-    × (place ≡ length first_indices))
-
 -- the first indices that this feature has named are those of the attributes' keys
 abbrev pub IsMarked : List (List ℕ) → List ℕ → List ℕ → ℕ → List Attribute → Type 0
 IsMarked texts first_indices named_by feature attributes =

@@ -36,7 +36,7 @@ loop-field-preserved g c =
 pub returns-in_err-count-in-Ok-clause-err :
     goal.returns-in_err-count-in-Ok-clause-err
 returns-in_err-count-in-Ok-clause-err g c = λ items held are has.
-    let p = err_from_is_err_and c.from_residual-in_err-count-in-Ok.result c.from_residual-in_err-count-in-Ok.ensures.1 in
+    let p = err_from_is_err_and c.from_residual.result c.from_residual.ensures.1 in
     let done = c.loop-field.invariant.0 in
     let next = c.next.new.self.to_come in
     let keys : c.loop-field.keys ≡ c.args.keys.now = c.loop-field.invariant.3 in
