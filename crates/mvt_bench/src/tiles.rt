@@ -3,9 +3,7 @@
 use mvt_base::LIMIT;
 use mvt_io::{Host, MemorySink};
 use mvt_message::{Item, read_item};
-use mvt_tile::{
-    DecodeError, Tile, TileDecoder, decode, encode, feature_count, judge, rewrite, write_tile,
-};
+use mvt_tile::{DecodeError, Tile, TileDecoder, decode, feature_count, write_tile};
 use std::alloc::Global;
 use std::{io, mem};
 
@@ -34,12 +32,6 @@ fn settle(found: Result<Tile, DecodeError>, keeps: bool) -> u64 {
 #[unsafe(no_mangle)]
 pub extern "C" fn mvt_decode(alloc: Global, bytes: &[u8], keeps: bool) -> u64 {
     settle(decode(alloc, bytes), keeps)
-}
-
-/// Whether a tile has no fault, without building it; also `false` for lack of memory.
-#[unsafe(no_mangle)]
-pub extern "C" fn mvt_judge(alloc: Global, bytes: &[u8]) -> bool {
-    judge(alloc, bytes).is_ok()
 }
 
 /// Feeds a tile in pieces, and keeps it.
@@ -78,20 +70,6 @@ pub extern "C" fn mvt_is_canonical(alloc: Global, bytes: &[u8]) -> bool {
         return false;
     };
     write_tile(alloc, &tile, &mut sink).is_ok() && sink.taken() == bytes
-}
-
-/// Whether a tile is rewritten as the very bytes that it is written as once it was read, or is
-/// refused both times for the same fault.
-#[unsafe(no_mangle)]
-pub extern "C" fn mvt_rewrites_as_written(alloc: Global, bytes: &[u8]) -> bool {
-    let made = rewrite(alloc, bytes);
-    match decode(alloc, bytes) {
-        Ok(tile) => match (made, encode(alloc, &tile)) {
-            (Ok(Some(found)), Ok(written)) => found.as_slice() == written.as_slice(),
-            _ => false,
-        },
-        Err(error) => made.err() == Some(error),
-    }
 }
 
 /// Reads an item, and counts its features and 1. 0 for a longer one than the limit too.

@@ -1,5 +1,5 @@
 -- What the calls of a builder answer.
-use Rattle.std.specs.Prelude.{◌≡◌, ℕ, Option, Result, Ok, Err}
+use Rattle.std.specs.Prelude.{◌≡◌, ◌==◌, ℕ, Option, None, Some, Result, Ok, Err, if◌then◌else◌}
 use Rattle.mvt_rows.specs.declared.builder.BuildError.{BuildError}
 use Rattle.mvt_rows.specs.declared.builder.BuildError.TheVariants as call
 use Rattle.mvt_rows.specs.declared.builder.Builder.{Builder}
@@ -27,6 +27,10 @@ status_of_rows (rows.NoTile fault) = 6
 abbrev pub status_of_finish : FinishError → ℕ
 status_of_finish (Call failure) = status_of_call failure
 status_of_finish (Rows refused) = status_of_rows refused
+
+-- an id that C gives: there is one where the number isn't 0
+abbrev pub id_given : ℕ → ℕ → Option ℕ
+id_given has_id id = if has_id == 0 then None else Some id
 
 -- the status is that of a call that makes this of what was told
 abbrev pub IsAnswered : {A : Type 0} → Builder → Builder → Result A BuildError → ℕ → (Told → Option Told) → Type 0

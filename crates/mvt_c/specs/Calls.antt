@@ -86,10 +86,6 @@ IsTooLargeOf input names = (tile : Tile) × IsTileWith input tile names × (LIMI
 abbrev pub LacksName : List ℕ → List (List ℕ) → ℕ → Type 0
 LacksName input names n = (tile : Tile) × IsTile LIMIT input tile × (first_missing tile names ≡ Some n)
 
--- there is such a name
-abbrev pub LacksLayer : List ℕ → List (List ℕ) → Type 0
-LacksLayer input names = (n : ℕ) × LacksName input names n
-
 -- no layer of version 2 among the fields of the bytes has the name
 abbrev pub LacksLayerOf : List ℕ → List ℕ → Type 0
 LacksLayerOf name input = (named_fault LIMIT name input ≡ None) × (first_in name input ≡ None)

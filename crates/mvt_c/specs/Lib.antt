@@ -5,3 +5,4 @@ pub mod Texts
 pub mod Held
 pub mod Places
 pub mod Building
+pub mod Remarks

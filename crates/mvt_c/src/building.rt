@@ -1,5 +1,5 @@
 //! A builder that lives across calls: C keeps a handle, hands it to each call and takes it back.
-//! `library/free.c` makes the handle at the first call.
+//! `library/c/mvt.c` makes the handle at the first call.
 ghost use Rattle.std.specs.Prelude.{◌≡◌, ◌≢◌, ◌==◌, ◌⊎◌, ℕ, not, Some, IfSome, bytes_eq, false, true};
 ghost use Rattle.mvt_attrs.specs.TagPlaces.{place_in};
 ghost use Rattle.mvt_rows.specs.declared.builder.FinishError.{FinishError};
@@ -10,13 +10,15 @@ ghost use Rattle.mvt_rows.specs.Told.{given_of, same_given};
 ghost use Rattle.mvt_rows.specs.Told as spec;
 ghost use Rattle.mvt_rows.specs.ToldRows.{told_rows};
 ghost use Rattle.mvt_rows.specs.Written.{IsNoTile, IsTooLargeOfRows, IsWritten};
-ghost use Rattle.mvt_c.specs.Building.{IsAnsweredBy, status_of_call, status_of_finish, status_of_made};
+ghost use Rattle.mvt_c.specs.Building.{IsAnsweredBy, id_given, status_of_call, status_of_finish, status_of_made};
+ghost use Rattle.mvt_c.specs.Faults.{IsRowsFault};
 
 mod held;
 
 use crate::lent::Bytes;
+use crate::writing::{RowsFaultRow, row_of};
 use held::{HeldBuilder, Making};
-use mvt_rows::{AnyValue, BuildError, Builder, FinishError, PointRow, Rows, RowsError};
+use mvt_rows::{AnyValue, BuildError, Builder, FinishError, PartRow, PointRow, Rows, RowsError};
 use std::alloc::Global;
 use std::mem;
 
@@ -214,6 +216,36 @@ pub extern "C" fn mvt_making_integers(
     status(made)
 }
 
+/// Adds a whole feature, with an id where the number isn't 0 (`mvt_builder_add`).
+#[unsafe(no_mangle)]
+pub extern "C" fn mvt_making_add(
+    held: HeldBuilder,
+    kind: u32,
+    has_id: u32,
+    id: u64,
+    tags: &[u32],
+    parts: &[PartRow],
+    points: &[PointRow],
+    again: &mut HeldBuilder,
+) -> u32
+    ensures { IsAnsweredBy (Unit {0}) held.making.inner again.new.making.inner result
+        (spec.add_feature kind (id_given has_id id) tags.now
+        (spec.told_parts points.now parts.now)) }
+{
+    let mut making = held.into_box();
+    let made = making
+        .inner
+        .add(kind, id_given(has_id, id), tags, parts, points);
+    keep(making, again);
+    status(made)
+}
+
+fn id_given(has_id: u32, id: u64) -> Option<u64>
+    ensures { result ≡ id_given has_id id }
+{
+    if has_id == 0 { None } else { Some(id) }
+}
+
 /// Takes the feature back (`mvt_builder_drop`).
 #[unsafe(no_mangle)]
 pub extern "C" fn mvt_making_drop(held: HeldBuilder, again: &mut HeldBuilder) -> u32
@@ -300,19 +332,28 @@ pub extern "C" fn mvt_making_rows(
     }
 }
 
-/// The canonical bytes of the tile (`mvt_builder_finish`). The builder is given back.
+/// The canonical bytes of the tile, or the first thing that is wrong with it
+/// (`mvt_builder_finish`). The builder is given back.
 #[unsafe(no_mangle)]
-pub extern "C" fn mvt_making_finish(alloc: Global, held: HeldBuilder, out: &mut Bytes) -> u32
+pub extern "C" fn mvt_making_finish(
+    alloc: Global,
+    held: HeldBuilder,
+    out: &mut Bytes,
+    fault: &mut RowsFaultRow,
+) -> u32
     ensures done { result ≡ 0 → (told : spec.Told) → HasTold held.making.inner told
         → IsWritten (told_rows told) out.new.bytes.now }
     ensures too_large { result ≡ 3 → (told : spec.Told) → HasTold held.making.inner told
         → IsTooLargeOfRows (told_rows told) }
     ensures no_tile { result ≡ 6 → (told : spec.Told) → HasTold held.making.inner told
         → IsNoTile (told_rows told) }
+    ensures fault { result ≡ 6 → (told : spec.Told) → HasTold held.making.inner told
+        → IsRowsFault (told_rows told) fault.new }
     ensures out_of_turn { result ≡ 8 → (told : spec.Told) → HasTold held.making.inner told → ⊥ }
     ensures kept { IfSome held.making.inner.failure (λ failure. result ≡ status_of_call failure) }
     ensures known { (result ≡ 0) ⊎ ((error : FinishError) × (result ≡ status_of_finish error)) }
     ensures out_kept { result ≢ 0 → out.new ≡ out.old }
+    ensures fault_kept { result ≢ 6 → fault.new ≡ fault.old }
 {
     let Making { inner } = Box::into_inner(held.into_box());
     match inner.finish(alloc) {
@@ -325,7 +366,10 @@ pub extern "C" fn mvt_making_finish(alloc: Global, held: HeldBuilder, out: &mut 
         Err(FinishError::Call(failure)) => status_of(failure),
         Err(FinishError::Rows(RowsError::Memory)) => 2,
         Err(FinishError::Rows(RowsError::TooLarge)) => 3,
-        Err(FinishError::Rows(RowsError::NoTile(_))) => 6,
+        Err(FinishError::Rows(RowsError::NoTile(found))) => {
+            *fault = row_of(found);
+            6
+        }
     }
 }
 

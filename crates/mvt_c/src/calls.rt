@@ -1,6 +1,6 @@
 //! The calls that make bytes of a tile's bytes.
 ghost use Rattle.std.specs.Prelude.{◌≡◌, ◌≢◌, ◌≤◌, map, string_bytes, All, Any, IsUtf8, IfOk, IfErr};
-ghost use Rattle.mvt_c.specs.Calls.{IsExtracted, IsReported, IsTooLargeOf, LacksLayer, LacksName, NotExtracted, RefusedAs};
+ghost use Rattle.mvt_c.specs.Calls.{IsExtracted, IsReported, IsTooLargeOf, LacksName, NotExtracted, RefusedAs};
 ghost use Rattle.mvt_c.specs.Names.{texts_of};
 ghost use Rattle.mvt_rows.specs.Reading.{IsRewritten, IsTooLarge};
 
@@ -36,33 +36,10 @@ fn rewritten(alloc: Global, bytes: &[u8]) -> Result<Vec<u8>, Refusal>
     rewrite(alloc, bytes)?.ok_or(Refusal::TooLarge)
 }
 
-/// The canonical bytes of a tile's named layers, in the order of the tile (`mvt_extract`).
+/// The canonical bytes of a tile's named layers, in the order of the tile, or the index of the first
+/// name that no layer has (`mvt_extract`).
 #[unsafe(no_mangle)]
-pub extern "C" fn mvt_extract(
-    alloc: Global,
-    bytes: &[u8],
-    names: &[Bytes],
-    out: &mut Bytes,
-    fault: &mut Fault,
-) -> u32
-    ensures done { result ≡ 0 → IsExtracted bytes.now (texts_of names.now) out.new.bytes.now }
-    ensures refused { result ≡ 1 → IsReported bytes.now fault.new }
-    ensures too_large { result ≡ 3 → IsTooLargeOf bytes.now (texts_of names.now) }
-    ensures missing { result ≡ 4 → LacksLayer bytes.now (texts_of names.now) }
-    ensures bad_name { result ≡ 5 → Any (λ text. IsUtf8 text → ⊥) (texts_of names.now) }
-    // The names are looked at before the bytes.
-    ensures names { result ≢ 2 → result ≢ 5 → All IsUtf8 (texts_of names.now) }
-    ensures few { result ≤ 5 }
-    ensures out_kept { result ≢ 0 → out.new ≡ out.old }
-    ensures fault_kept { result ≢ 1 → fault.new ≡ fault.old }
-{
-    let mut untold = 0;
-    mvt_extract_layers(alloc, bytes, names, out, fault, &mut untold)
-}
-
-/// The same, and the index of the first name that no layer has (`mvt_extract_layers`).
-#[unsafe(no_mangle)]
-pub extern "C" fn mvt_extract_layers(
+pub extern "C" fn mvt_extract_named(
     alloc: Global,
     bytes: &[u8],
     names: &[Bytes],

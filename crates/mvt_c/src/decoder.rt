@@ -1,5 +1,5 @@
 //! A decoder that lives across calls: C keeps a handle, hands it to each call and takes it back.
-//! `library/free.c` answers an empty handle before it comes here.
+//! `library/c/mvt.c` answers an empty handle before it comes here.
 ghost use Rattle.std.specs.Prelude.{◌≡◌, ◌≢◌, ◌≤◌, [], ◌++◌, ℕ, List, None, IsSome, IfOk, IfErr, IfSome};
 ghost use Rattle.mvt_tile.specs.Streams.{IsCalm};
 ghost use Rattle.mvt_tile.specs.TileRules.{fault_within};
@@ -31,7 +31,7 @@ fn keep(held: Held, out: &mut Held)
 }
 
 /// A decoder of no bytes yet, whose rows shall have at most so many bytes
-/// (`mvt_decoder_new_within`).
+/// (`mvt_decoder_new`).
 #[unsafe(no_mangle)]
 pub extern "C" fn mvt_held_new(alloc: Global, most: u64, out: &mut Held) -> u32
     ensures made { result ≡ 0 → StandsFor most out.new.decoder.inner [] }

@@ -13,5 +13,6 @@ mod names;
 mod places;
 mod reading;
 mod refusal;
+mod remarks;
 mod texts;
 mod writing;

@@ -97,7 +97,7 @@ fn index_given(index: i64) -> Option<u32>
     Some(u32::try_from(index).unwrap_or(u32::MAX))
 }
 
-fn cause_given(number: u32) -> Option<Cause>
+pub(crate) fn cause_given(number: u32) -> Option<Cause>
     ensures given { IfSome result (λ cause. cause_number cause ≡ number) }
     ensures unknown { result ≡ None → (cause : Cause) → cause_number cause ≡ number → ⊥ }
 {

@@ -35,26 +35,9 @@ fn judged(alloc: Global, bytes: &[u8]) -> Result<(), Refusal>
     Ok(())
 }
 
-/// A tile as rows (`mvt_read`).
+/// A tile as rows of at most so many bytes (`mvt_read`).
 #[unsafe(no_mangle)]
 pub extern "C" fn mvt_read(
-    alloc: Global,
-    bytes: &[u8],
-    out: &mut Rows<'static>,
-    fault: &mut Fault,
-) -> u32
-    ensures done { result ≡ 0 → IsRead bytes.now (table_of out.new) }
-    ensures refused { result ≡ 1 → IsReported bytes.now fault.new }
-    ensures few { result ≤ 2 }
-    ensures out_kept { result ≢ 0 → out.new ≡ out.old }
-    ensures fault_kept { result ≢ 1 → fault.new ≡ fault.old }
-{
-    mvt_read_within(alloc, bytes, u64::MAX, out, fault)
-}
-
-/// A tile as rows of at most so many bytes (`mvt_read_within`).
-#[unsafe(no_mangle)]
-pub extern "C" fn mvt_read_within(
     alloc: Global,
     bytes: &[u8],
     most: u64,

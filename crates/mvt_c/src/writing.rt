@@ -11,32 +11,10 @@ use crate::lent::Bytes;
 use mvt_rows::{Rows, RowsError, RowsFault, rows_fault, write_rows};
 use std::alloc::Global;
 
-/// The canonical bytes of the tile that rows are (`mvt_write`).
+/// The canonical bytes of the tile that rows are, or what is wrong with rows that are no valid tile
+/// (`mvt_write`).
 #[unsafe(no_mangle)]
-pub extern "C" fn mvt_write(alloc: Global, rows: &Rows<'_>, out: &mut Bytes) -> u32
-    ensures done { result ≡ 0 → IsWritten (table_of rows.now) out.new.bytes.now }
-    ensures too_large { result ≡ 3 → IsTooLargeOfRows (table_of rows.now) }
-    ensures no_tile { result ≡ 6 → IsNoTile (table_of rows.now) }
-    ensures known { (result ≡ 0) ⊎ ((result ≡ 2) ⊎ ((result ≡ 3) ⊎ (result ≡ 6))) }
-    ensures out_kept { result ≢ 0 → out.new ≡ out.old }
-
-    // The rows are one tile at most.
-    ensures one { (tile other : Tile) → IsTileOf (table_of rows.now) tile
-        → IsTileOf (table_of rows.now) other
-        → tile ≡ other }
-{
-    let mut untold = RowsFaultRow {
-        layer: 0,
-        feature: 0,
-        has_feature: 0,
-        cause: 0,
-    };
-    mvt_write_rows(alloc, rows, out, &mut untold)
-}
-
-/// The same, and what is wrong with rows that are no valid tile (`mvt_write_rows`).
-#[unsafe(no_mangle)]
-pub extern "C" fn mvt_write_rows(
+pub extern "C" fn mvt_write_told(
     alloc: Global,
     rows: &Rows<'_>,
     out: &mut Bytes,
@@ -49,6 +27,11 @@ pub extern "C" fn mvt_write_rows(
     ensures known { (result ≡ 0) ⊎ ((result ≡ 2) ⊎ ((result ≡ 3) ⊎ (result ≡ 6))) }
     ensures out_kept { result ≢ 0 → out.new ≡ out.old }
     ensures fault_kept { result ≢ 6 → fault.new ≡ fault.old }
+
+    // The rows are one tile at most.
+    ensures one { (tile other : Tile) → IsTileOf (table_of rows.now) tile
+        → IsTileOf (table_of rows.now) other
+        → tile ≡ other }
 {
     match write_rows(alloc, rows) {
         Ok(bytes) => {
@@ -96,7 +79,7 @@ pub extern "C" fn mvt_judge_rows(alloc: Global, rows: &Rows<'_>, fault: &mut Row
     }
 }
 
-fn row_of(fault: RowsFault) -> RowsFaultRow
+pub(crate) fn row_of(fault: RowsFault) -> RowsFaultRow
     ensures { result ≡ row_of_fault fault }
 {
     let (feature, has_feature) = match fault.feature {

@@ -4,7 +4,7 @@ use Rattle.std.specs.Box.{box_value}
 use Rattle.std.specs.Option.{option_map}
 use Rattle.clap.specs.Lexer.{usize_max}
 use Rattle.clap.specs.Words.{App, Row, Rule, app_of, found_of, matched_of, new_rule, raw_values, rows_of, rule_of, subcommand_name_of, subcommand_rows, subcommand_rows_of, with_subcommand, AddsSubcommand}
-use Rattle.clap.specs.declared.builder.action.ArgAction.TheVariants.{Append}
+use Rattle.clap.specs.declared.builder.action.ArgAction.TheVariants.{Append, SetTrue}
 use Rattle.clap.specs.declared.builder.arg.Arg.{Arg}
 use Rattle.clap.specs.declared.builder.command.Command.TheViews.{out-Command as fields_of}
 use Rattle.clap.specs.declared.builder.command.Command.{Command}
@@ -14,7 +14,7 @@ use Rattle.clap.specs.declared.parser.matches.ArgMatches.TheViews.{out-ArgMatche
 use Rattle.clap.specs.declared.parser.matches.Found.{Found}
 use Rattle.clap.specs.declared.parser.matches.SubCommand.{SubCommand}
 use Rattle.clap.proofs.WalkLemmas.{raw_values-rows}
-use Rattle.mvt_cli.specs.Words.{names_rule, files_rule, texts_given}
+use Rattle.mvt_cli.specs.Words.{names_rule, files_rule, texts_given, version_rule}
 
 pub added : (old sub new : Command) (a s : App) → AddsSubcommand old sub new → app_of old ≡ a → app_of sub ≡ s
     → (fields_of sub).has_globals ≡ false → app_of new ≡ with_subcommand a s.top
@@ -34,6 +34,17 @@ names_rule_is new acting many wanted helped o text new_is acting_is many_is rang
     ∙ ap (λ (r : Rule). record r { required = true })
     (ap rule_of many_is ∙ ap₂ (λ (r : Rule) (x : Option ValueRange). record r { range = x })
     (ap rule_of acting_is ∙ ap (λ (r : Rule). record r { action = Some Append }) new_is) range)
+
+pub version_rule_is : (new long short acting helped : Arg) (l : Bor (List ℕ)) (text : Option (Bor (List ℕ)))
+    → rule_of new ≡ new_rule (codes "version") → l.now ≡ codes "version"
+    → long ≡ record new { long = Some l } → short ≡ record long { short = Some 86 }
+    → acting ≡ record short { action = Some SetTrue } → helped ≡ record acting { help = text } → rule_of helped ≡ version_rule
+version_rule_is new long short acting helped l text new_is l_is long_is short_is acting_is helped_is =
+    ap rule_of helped_is ∙ ap rule_of acting_is
+    ∙ ap (λ (r : Rule). record r { action = Some SetTrue })
+    (ap rule_of short_is
+    ∙ ap (λ (r : Rule). record r { short = Some 86 })
+    (ap rule_of long_is ∙ ap₂ (λ (r : Rule) (t : List ℕ). record r { long = Some t }) new_is l_is))
 
 pub files_rule_is : (new acting many helped : Arg) (o : Option ValueRange) (text : Option (Bor (List ℕ)))
     → rule_of new ≡ new_rule (codes "file")

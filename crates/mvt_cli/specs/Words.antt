@@ -1,11 +1,11 @@
 -- The command line of `mvt`, as clap's own definition of a command and of what it makes of words.
-use Rattle.std.specs.Prelude.{◌≡◌, ℕ, ◌⊎◌, true, List, [], ◌∷◌, Option, Some, None, codes, bytes_eq, unwrap_or, if◌then◌else◌, ⊤}
+use Rattle.std.specs.Prelude.{◌≡◌, ℕ, ◌⊎◌, Bool, false, true, List, [], ◌∷◌, Option, Some, None, codes, bytes_eq, unwrap_or, if◌then◌else◌, ⊤}
 use Rattle.clap.specs.Lexer.{usize_max}
-use Rattle.clap.specs.Words.{App, Row, Rule, new_app, new_rule, all_of, with_rule, with_subcommand, fault_of, subcommand_of}
+use Rattle.clap.specs.Words.{App, Row, Rule, new_app, new_rule, all_of, with_rule, with_subcommand, fault_of, matches_of, subcommand_of}
 use Rattle.clap.specs.Kinds.{Kinds}
-use Rattle.clap.specs.declared.builder.action.ArgAction.TheVariants.{Append}
+use Rattle.clap.specs.declared.builder.action.ArgAction.TheVariants.{Append, SetTrue}
 use Rattle.mvt_tasks.specs.declared.task.Task.{Task}
-use Rattle.mvt_tasks.specs.declared.task.Task.TheVariants.{Fields, Show, Draw, Check, Explain, Lint, Rewrite, Extract}
+use Rattle.mvt_tasks.specs.declared.task.Task.TheVariants.{Fields, Show, Draw, Check, Explain, Lint, Rewrite, Extract, Version}
 
 -- the names of layers: one or more
 abbrev pub names_rule : Rule
@@ -30,19 +30,31 @@ files_rule = record (new_rule (codes "file")) {
 unfoldable pub files_app : List ℕ → App
 files_app name = with_rule (new_app name) files_rule
 
+-- the option `--version`, or `-V`
+abbrev pub version_rule : Rule
+version_rule = record (new_rule (codes "version")) {
+  long = Some (codes "version");
+  short = Some 86;
+  action = Some SetTrue;
+}
+
+-- the command `mvt` without its subcommands
+unfoldable pub bare_mvt : App
+bare_mvt = with_rule (new_app (codes "mvt")) version_rule
+
 -- with a subcommand that takes no words of its own
 abbrev pub with_bare : App → List ℕ → App
 with_bare app name = with_subcommand app (new_app name).top
 
 -- the command `mvt` with its subcommands
 unfoldable pub mvt : App
-unfolding extract_app files_app
+unfolding bare_mvt extract_app files_app
 mvt =
     with_subcommand
     (with_bare
     (with_subcommand
     (with_subcommand
-    (with_subcommand (with_bare (with_bare (with_bare (new_app (codes "mvt")) (codes "fields")) (codes "show"))
+    (with_subcommand (with_bare (with_bare (with_bare bare_mvt (codes "fields")) (codes "show"))
     (codes "draw")) (files_app (codes "check")).top)
     (files_app (codes "explain")).top)
     (files_app (codes "lint")).top)
@@ -84,9 +96,28 @@ abbrev pub task_of_subcommand : Option (List ℕ × List Row) → Task
 task_of_subcommand None = Check
 task_of_subcommand (Some (name, rows)) = task_named name rows
 
+-- the text of a flag that was given
+abbrev pub is_true : List (List ℕ) → Bool
+is_true (text ∷ []) = bytes_eq text (codes "true")
+is_true _ = false
+
+-- a flag was given
+abbrev pub has_flag : List ℕ → List Row → Bool
+has_flag key rows = is_true (texts_given key rows)
+
+-- the flags among the words
+abbrev pub flags_in : List (List ℕ) → List Row
+flags_in [] = []
+flags_in (word ∷ words) = matches_of mvt (word ∷ words)
+
+-- the version, if a flag asks for it, whatever else there is
+abbrev pub task_of_matches : List Row → Option (List ℕ × List Row) → Task
+task_of_matches flags subcommand =
+    if has_flag (codes "version") flags then Version else task_of_subcommand subcommand
+
 -- what the words ask for
 abbrev pub task_in : List (List ℕ) → Task
-task_in words = task_of_subcommand (subcommand_in words)
+task_in words = task_of_matches (flags_in words) (subcommand_in words)
 
 -- the files that a subcommand names
 abbrev pub files_named : List ℕ → List Row → List (List ℕ)
@@ -100,14 +131,19 @@ abbrev pub files_of_subcommand : Option (List ℕ × List Row) → List (List �
 files_of_subcommand None = []
 files_of_subcommand (Some (name, rows)) = files_named name rows
 
+-- no files, if a flag asks for the version
+abbrev pub files_of_matches : List Row → Option (List ℕ × List Row) → List (List ℕ)
+files_of_matches flags subcommand =
+    if has_flag (codes "version") flags then [] else files_of_subcommand subcommand
+
 -- the files that the words name; where there are some, these are checked, explained or linted, and not the input
 abbrev pub files_in : List (List ℕ) → List (List ℕ)
-files_in words = files_of_subcommand (subcommand_in words)
+files_in words = files_of_matches (flags_in words) (subcommand_in words)
 
--- the subcommands that take no words of their own
+-- the subcommands that take no words of their own, and the option that wants none beside it
 abbrev pub IsBare : List ℕ → Type 0
 IsBare word = (word ≡ codes "fields")
-    ⊎ ((word ≡ codes "show") ⊎ ((word ≡ codes "draw") ⊎ ((word ≡ codes "check") ⊎ ((word ≡ codes "explain") ⊎ ((word ≡ codes "lint") ⊎ (word ≡ codes "rewrite"))))))
+    ⊎ ((word ≡ codes "show") ⊎ ((word ≡ codes "draw") ⊎ ((word ≡ codes "check") ⊎ ((word ≡ codes "explain") ⊎ ((word ≡ codes "lint") ⊎ ((word ≡ codes "rewrite") ⊎ (word ≡ codes "--version")))))))
 
 -- a line that is never refused: nothing, the program's name, or its name and a subcommand without
 -- names

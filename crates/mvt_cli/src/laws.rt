@@ -18,6 +18,10 @@ pub fn lines_ask()
     ensures extract { (name : List ℕ)
         → task_in (name ∷ codes "extract" ∷ codes "b" ∷ codes "a" ∷ [])
         ≡ Task.Extract (codes "b" ∷ codes "a" ∷ []) }
+    ensures version { (name : List ℕ) → task_in (name ∷ codes "--version" ∷ []) ≡ Task.Version }
+    ensures short { (name : List ℕ) → task_in (name ∷ codes "-V" ∷ []) ≡ Task.Version }
+    ensures before { (name : List ℕ)
+        → task_in (name ∷ codes "--version" ∷ codes "check" ∷ codes "b" ∷ []) ≡ Task.Version }
 {}
 
 /// The lines name these files, whatever the program's own name is.
@@ -34,6 +38,8 @@ pub fn lines_name_files()
     ensures hyphens { (name : List ℕ)
         → files_in (name ∷ codes "check" ∷ codes "--" ∷ codes "-b" ∷ [])
         ≡ codes "-b" ∷ [] }
+    ensures version { (name : List ℕ)
+        → files_in (name ∷ codes "--version" ∷ codes "check" ∷ codes "b" ∷ []) ≡ [] }
 {}
 
 /// A line without words of its own is never refused.

@@ -2,30 +2,55 @@
 //! Vector Tiles.
 #![tactic(auto)]
 
+mod hints;
 mod laws;
 mod run;
 mod words;
 
-use mvt_io::Host;
-use mvt_tasks::Disk;
+use hints::{Oddity, Watched, WatchedFolder, hint};
+use mvt_io::{Host, Sink};
+use mvt_tasks::{Disk, print};
 use run::{refuse, run};
+use std::alloc::Global;
+use std::io::IsTerminal;
 use std::process::ExitCode;
 use words::arguments;
 
 fn main(rt: HostRuntime) -> ExitCode {
-    let mut reader = Host::new(rt.stdin());
+    let mut reader = Watched::new(Host::new(rt.stdin()));
+    let mut folder = WatchedFolder::new(rt.alloc(), Disk::new(&rt));
     let mut writer = Host::new(rt.stdout());
     let mut errors = Host::new(rt.stderr());
     let status = match arguments(&rt) {
         Ok(words) => run(
             rt.alloc(),
             &words,
-            &mut Disk::new(&rt),
+            &mut folder,
             &mut reader,
             &mut writer,
             &mut errors,
         ),
         Err(refusal) => refuse(refusal, &mut errors),
     };
+    if rt.stderr().is_terminal() && (status == 1 || status == 3) {
+        match folder.noted() {
+            Some((name, oddity)) => tell(rt.alloc(), name.as_str(), *oddity, &mut errors),
+            None => tell_of_input(rt.alloc(), reader.oddity(), &mut errors),
+        }
+    }
     ExitCode::from(status)
+}
+
+/// Adds a line about a refused or unread input, if there is one to add.
+fn tell<E: Sink>(alloc: Global, file: &str, oddity: Oddity, errors: &mut E) {
+    if let Ok(line) = hint(alloc, file, oddity) {
+        print(errors, line.as_str());
+    }
+}
+
+/// The same of standard input, which has no name.
+fn tell_of_input<E: Sink>(alloc: Global, oddity: Option<Oddity>, errors: &mut E) {
+    if let Some(oddity) = oddity {
+        tell(alloc, "FILE", oddity, errors);
+    }
 }

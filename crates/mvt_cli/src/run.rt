@@ -10,7 +10,7 @@ ghost use Rattle.mvt_tasks.specs.Failures.{EndsFailed, FailsReading, line_of, st
 ghost use Rattle.mvt_tasks.specs.Output.{GivesReply, HasOutput, IsGiven, IsReplyTo, PutOut, PutsText, ReadsNoFurther};
 ghost use Rattle.mvt_tasks.specs.Visits.{OneAtATime};
 ghost use Rattle.mvt_cli.specs.Words.{task_in, faults_in, files_in};
-ghost use Rattle.mvt_cli.specs.Refused.{IsUsage, usage_text};
+ghost use Rattle.mvt_cli.specs.Refused.{EndsWith, IsUsage, advice_on, usage_text};
 
 use crate::words::{Asked, Refusal, read_words};
 use mvt_base::LIMIT;
@@ -74,7 +74,8 @@ pub fn run<F: Folder, R: Source, W: Sink, E: Sink>(
         → ((result ≡ 2) ⊎ (result ≡ 4)) × (folder.new ≡ folder.old) × (reader.new ≡ reader.old)
         × (writer.new ≡ writer.old) }
     ensures usage { result ≡ 2 → (faults_in (map string_bytes words.now) ≢ [])
-        × ((text : List ℕ) × Prints (E.state errors.old) (E.state errors.new) text) }
+        × ((text : List ℕ) × EndsWith (advice_on (map string_bytes words.now)) text
+        × Prints (E.state errors.old) (E.state errors.new) text) }
     ensures statuses { result < 6 }
 {
     let Asked { task, files } = match read_words(alloc, words) {

@@ -1,12 +1,14 @@
 //! The words of the command line, as clap reads them.
-ghost use Rattle.std.specs.Prelude.{◌≡◌, ◌≢◌, [], false, map, string_bytes, IfOk, IfErr, OnOk};
+ghost use Rattle.std.specs.Prelude.{◌≡◌, ◌≢◌, [], false, codes, map, string_bytes, IfOk, IfErr, IsOkAnd, OnOk};
 ghost use Rattle.clap.specs.declared.builder.command.Command.TheViews.{out-Command as fields_of};
 ghost use Rattle.clap.specs.Words.{app_of, found_of, new_app, rows_of, subcommand_rows_of};
-ghost use Rattle.mvt_cli.specs.Words.{mvt, extract_app, files_app, task_in, task_named as named, task_of_subcommand, texts_given, faults_in, files_in, files_named as named_files, files_of_subcommand};
-ghost use Rattle.mvt_cli.specs.Refused.{IsUsage};
+ghost use Rattle.mvt_cli.specs.Words.{mvt, bare_mvt, extract_app, files_app, has_flag, task_in, task_named as named, task_of_matches, task_of_subcommand, texts_given, faults_in, files_in, files_named as named_files, files_of_matches, files_of_subcommand};
+ghost use Rattle.mvt_cli.specs.Refused as spec;
+ghost use Rattle.mvt_cli.specs.Words as words_spec;
+ghost use Rattle.mvt_cli.specs.Refused.{EndsWith, IsUsage, advice_on, usage_text};
 
 use clap::error::ErrorKind;
-use clap::{Arg, ArgAction, ArgMatches, Command};
+use clap::{Arg, ArgAction, ArgMatches, Command, Error};
 use mvt_tasks::{Names, Task};
 use std::alloc::{AllocError, Global};
 use std::rt::Env;
@@ -76,8 +78,7 @@ fn mvt_command<'a>(alloc: Global) -> Result<Command<'a>, AllocError>
     )?;
     let rewrite = bare_command(alloc, "rewrite", "Writes the tile in its canonical form");
     let extract = extract_command(alloc)?;
-    Command::new(alloc, "mvt")
-        .about("Reads a Mapbox Vector Tile from standard input")
+    flags_command(alloc)?
         .subcommand(fields)?
         .subcommand(show)?
         .subcommand(draw)?
@@ -86,6 +87,20 @@ fn mvt_command<'a>(alloc: Global) -> Result<Command<'a>, AllocError>
         .subcommand(lint)?
         .subcommand(rewrite)?
         .subcommand(extract)
+}
+
+/// The command `mvt` without its subcommands.
+fn flags_command<'a>(alloc: Global) -> Result<Command<'a>, AllocError>
+    ensures { IfOk result (λ command. app_of command ≡ bare_mvt) }
+{
+    let version = Arg::new(alloc, "version")
+        .long("version")
+        .short('V')
+        .action(ArgAction::SetTrue)
+        .help("Print version");
+    Command::new(alloc, "mvt")
+        .about("Reads a Mapbox Vector Tile from standard input")
+        .arg(version)
 }
 
 /// A subcommand that takes no words of its own.
@@ -133,6 +148,7 @@ fn refusal_of(kind: ErrorKind, text: Result<String, AllocError>) -> Refusal
     ensures usage { IsUsage result → kind ≢ ErrorKind.OutOfMemory }
     ensures printed { kind ≢ ErrorKind.OutOfMemory
         → IfOk text (λ text. result ≡ Refusal.Usage text) }
+    ensures text { IsUsage result → IsOkAnd text (λ text. result ≡ Refusal.Usage text) }
 {
     if kind == ErrorKind::OutOfMemory {
         return Refusal::Memory;
@@ -151,6 +167,8 @@ pub fn read_words(alloc: Global, words: &[String]) -> Result<Asked, Refusal>
     ensures ok { OnOk result (faults_in (map string_bytes words.now) ≡ []) }
     ensures usage { IfErr result (λ refusal. IsUsage refusal
         → faults_in (map string_bytes words.now) ≢ []) }
+    ensures advice { IfErr result (λ refusal. IsUsage refusal
+        → EndsWith (advice_on (map string_bytes words.now)) (usage_text refusal)) }
 {
     if words.is_empty() {
         let files = Names::new(Vec::new(alloc));
@@ -158,11 +176,86 @@ pub fn read_words(alloc: Global, words: &[String]) -> Result<Asked, Refusal>
         return Ok(Asked { task, files });
     }
     match mvt_command(alloc)?.try_get_matches_from(words) {
-        Ok(matches) => Ok(Asked {
-            task: task_of(alloc, &matches)?,
-            files: files_of(alloc, &matches)?,
-        }),
-        Err(error) => Err(refusal_of(error.kind(), error.to_string(alloc))),
+        Ok(matches) => Ok(read_matches(alloc, &matches)?),
+        Err(error) => Err(refusal_of(error.kind(), told(alloc, &error, words))),
+    }
+}
+
+/// What clap says of words that it refuses, and below it what was perhaps meant.
+fn told(alloc: Global, error: &Error, words: &[String]) -> Result<String, AllocError>
+    ensures { IfOk result (λ text. EndsWith (advice_on (map string_bytes words.now))
+        (string_bytes text)) }
+{
+    let mut text = error.to_string(alloc)?;
+    let advice = advice(alloc, words)?;
+    text.push_str(advice.as_str())?;
+    Ok(text)
+}
+
+/// What was perhaps meant, in a line: a file in the place of a command is to be checked.
+fn advice(alloc: Global, words: &[String]) -> Result<String, AllocError>
+    ensures { IfOk result (λ text. string_bytes text ≡ advice_on (map string_bytes words.now)) }
+{
+    match words {
+        [_, word, ..] => advice_to(alloc, word.as_str()),
+        _ => Ok(String::new(alloc)),
+    }
+}
+
+/// What was perhaps meant by the word in the place of a command.
+fn advice_to(alloc: Global, word: &str) -> Result<String, AllocError>
+    ensures { IfOk result (λ text. string_bytes text ≡ spec.advice_to word.now) }
+{
+    if is_file_name(word.as_bytes()) {
+        format!(in alloc; "\ndid you mean 'mvt check {word}'?\n")
+    } else {
+        Ok(String::new(alloc))
+    }
+}
+
+/// Whether a word looks like the name of a file: it has a dot or a slash, and no hyphen before it.
+fn is_file_name(word: &[u8]) -> bool
+    ensures { result ≡ spec.is_file_name word.now }
+{
+    !word.starts_with(b"-") && (word.contains(&b'.') || word.contains(&b'/'))
+}
+
+/// What clap's matches ask for.
+fn read_matches(alloc: Global, matches: &ArgMatches<'_>) -> Result<Asked, AllocError>
+    ensures task { IfOk result (λ asked. asked.task ≡ task_of_matches
+        (rows_of (found_of matches.now)) (subcommand_rows_of matches.now)) }
+    ensures files { IfOk result (λ asked. asked.files ≡ files_of_matches
+        (rows_of (found_of matches.now)) (subcommand_rows_of matches.now)) }
+{
+    if has_version(matches) {
+        return Ok(Asked {
+            task: Task::Version,
+            files: Names::new(Vec::new(alloc)),
+        });
+    }
+    Ok(Asked {
+        task: task_of(alloc, matches)?,
+        files: files_of(alloc, matches)?,
+    })
+}
+
+/// Whether the version is asked for.
+fn has_version(matches: &ArgMatches<'_>) -> bool
+    ensures { result ≡ has_flag (codes "version") (rows_of (found_of matches.now)) }
+{
+    match matches.get_strs("version") {
+        Some(texts) => is_true(texts),
+        None => false,
+    }
+}
+
+/// Whether a flag was given, by its texts.
+fn is_true(texts: &[&str]) -> bool
+    ensures { result ≡ words_spec.is_true (map (λ text. text.now) texts.now) }
+{
+    match texts {
+        [text] => *text == "true",
+        _ => false,
     }
 }
 

@@ -16,4 +16,4 @@ pub use explaining::explanation_text;
 pub use locating::locate;
 pub use lookalike::{Lookalike, looks_like};
 pub use place::Place;
-pub use sentences::{sentence, sentence_with_zero};
+pub use sentences::{cause_with_zero, sentence, sentence_with_zero};

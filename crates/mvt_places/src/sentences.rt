@@ -198,8 +198,9 @@ fn sentence_of_cause(cause: Cause) -> &'static str
     of_cause!(cause, "")
 }
 
+/// Which rule is broken, with a zero at the end, for C.
 #[tactic(auto, unfolding(crate::specs::Sentences::cause_sentence))]
-fn cause_with_zero(cause: Cause) -> &'static str
+pub fn cause_with_zero(cause: Cause) -> &'static str
     ensures { result.now ≡ cause_sentence cause ++ 0 ∷ [] }
 {
     of_cause!(cause, "\0")

@@ -19,7 +19,7 @@ use Rattle.mvt_rows.specs.declared.rows.PointRow.{PointRow}
 use Rattle.mvt_rows.specs.declared.words.Given.{Given}
 use Rattle.mvt_rows.specs.Building.{HasTold, Holds, IsCalled, open_feature, with_points_of}
 use Rattle.mvt_rows.specs.Tables.{Table, truth_number}
-use Rattle.mvt_rows.specs.Told.{Told, ToldPart, ToldFeature, Begun, Nothing, InLayer, InFeature, InPart, part_ended, feature_ended, with_part, same_given, with_entry}
+use Rattle.mvt_rows.specs.Told.{Told, ToldPart, ToldFeature, ToldLayer, Begun, new_part, Nothing, InLayer, InFeature, InPart, part_ended, feature_ended, with_part, same_given, with_entry}
 use Rattle.mvt_rows.specs.ToldRows.{part_rows, points_of, with_drawn, told_row, with_told_feature, with_told_features}
 
 -- ---- a part more
@@ -45,7 +45,7 @@ length-part_rows start [] = refl
 length-part_rows start (q ∷ parts) = omega (arith, length-part_rows (start + length q.points) parts)
 
 -- the row of a part, from what a builder keeps of it
-abbrev row_from : Bool → ℕ → List PointRow → PartRow
+abbrev pub row_from : Bool → ℕ → List PointRow → PartRow
 row_from exterior at points = record { exterior = truth_number exterior; points = record { start = at; len = length points - at } }
 
 row_is : (held : List PointRow) (p : ToldPart) (exterior : Bool) (at : ℕ) → exterior ≡ p.exterior → at ≡ length held
@@ -55,7 +55,7 @@ row_is held p exterior at e begins =
     λ j. record { exterior = truth_number (e j); points = record { start = begins j; len = count j } }
 
 -- a table with the row of the part that was told last
-abbrev with_row : Table → Bool → ℕ → Table
+abbrev pub with_row : Table → Bool → ℕ → Table
 with_row t exterior at = record t { parts = t.parts ++ row_from exterior at t.points ∷ [] }
 
 drawn_more : (t : Table) (f : ToldFeature) (p : ToldPart) (exterior : Bool) (at : ℕ) → exterior ≡ p.exterior
@@ -77,6 +77,20 @@ drawn_more t f p exterior at e begins =
       points = points j;
       integers = t.integers ++ f.integers;
     }
+
+-- a part with its points, whose row is added at once
+pub part_more : (b : Builder) (after : Table) (t : Table) (l : ToldLayer) (f : ToldFeature) (exterior : Bool) (points : List PointRow)
+    → Holds b t (InFeature l f)
+    → after ≡ with_row (with_points_of b.table (new_part exterior points)) exterior (length b.table.points)
+    → Holds (record b { table = after }) t (InFeature l (with_part f (new_part exterior points)))
+part_more b after t l f exterior points h e = (
+  h.0,
+  record { name = h.1.name; extent = h.1.extent; open_at = h.1.open_at; keys = h.1.keys; values = h.1.values },
+  h.2,
+  e ∙ ap (λ held. with_row (with_points_of held (new_part exterior points)) exterior (length held.points)) h.3
+      ∙ drawn_more (with_told_features t l.features) f (new_part exterior points) exterior
+      (length (with_drawn (with_told_features t l.features) f).points) refl refl,
+)
 
 -- ---- what ends
 

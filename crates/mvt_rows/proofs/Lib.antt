@@ -2,6 +2,7 @@ pub mod RowsLaws
 mod EachLemmas
 mod DrawingLemmas
 mod TileLemmas
+mod WholeLemmas
 mod WritingLemmas
 mod FaultLemmas
 mod OneFaultLemmas

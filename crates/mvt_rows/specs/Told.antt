@@ -1,10 +1,12 @@
 -- What a builder was told: layers one after the other, and the layer, the feature and the part that have begun and not ended.
 -- Each call makes one of these of another, or is not due.
-use Rattle.std.specs.Prelude.{ℕ, Bool, false, ◌&&◌, ◌==◌, nat_lt, List, [], ◌∷◌, ◌++◌, length, Option, Some, None, option_map, bytes_eq, if◌then◌else◌}
+use Rattle.std.specs.Prelude.{ℕ, Bool, false, not, ◌&&◌, ◌==◌, nat_lt, List, [], ◌∷◌, ◌++◌, length, Option, Some, None, option_map, bytes_eq, if◌then◌else◌}
 use Rattle.mvt_attrs.specs.TagPlaces.{place_in}
+use Rattle.mvt_rows.specs.declared.rows.PartRow.{PartRow}
 use Rattle.mvt_rows.specs.declared.rows.PointRow.{PointRow}
 use Rattle.mvt_rows.specs.declared.words.AnyValue.{AnyValue}
 use Rattle.mvt_rows.specs.declared.words.Given.{Given}
+use Rattle.mvt_rows.specs.TileRows.{each, part_of}
 
 -- a line, a ring, or the points of a feature
 pub record ToldPart : Type 0 where
@@ -218,6 +220,24 @@ integers_in integers (InPart l f p) = if f.kind == 0 then Some (InPart l (with_i
 
 abbrev pub add_integers : List ℕ → Told → Option Told
 add_integers integers told = with_begun told (integers_in integers told.begun)
+
+-- a whole feature at once, as rows give it: its parts are spans of these points
+abbrev pub told_part : List PointRow → PartRow → Option ToldPart
+told_part points row = option_map (new_part (not (row.exterior == 0))) (part_of points row.points)
+
+abbrev pub told_parts : List PointRow → List PartRow → Option (List ToldPart)
+told_parts points rows = each (told_part points) rows
+
+abbrev pub with_parts : ToldFeature → List ToldPart → ToldFeature
+with_parts f parts = record f { parts = f.parts ++ parts }
+
+abbrev pub whole_feature : ℕ → Option ℕ → List ℕ → List ToldPart → ToldFeature
+whole_feature kind id tags parts = record { kind = kind; id = id; tags = tags; parts = parts; integers = [] }
+
+abbrev pub add_feature : ℕ → Option ℕ → List ℕ → Option (List ToldPart) → Told → Option Told
+add_feature kind id tags None told = None
+add_feature kind id tags (Some parts) told =
+    with_begun told (in_layer (λ l. with_feature l (whole_feature kind id tags parts)) (feature_ended told.begun))
 
 -- the feature that has begun is taken back
 abbrev pub dropped_in : Begun → Option Begun

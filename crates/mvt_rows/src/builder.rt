@@ -1,6 +1,6 @@
 //! A tile made step by step: a builder holds the rows of what it was told, and gives the tile's
 //! bytes at the end.
-ghost use Rattle.std.specs.Prelude.{◌≡◌, ◌≢◌, ◌++◌, [], List, None, Some, Ok, Err, OnOk, OnErr, IfOk, IfErr, IfSome, IsSomeAnd, IsErrOf, bytes_eq, false, true};
+ghost use Rattle.std.specs.Prelude.{◌≡◌, ◌≢◌, ◌&&◌, ◌++◌, [], List, None, Some, Ok, Err, is_some, OnOk, OnErr, IfOk, IfErr, IfSome, IsSomeAnd, IsErrOf, bytes_eq, false, true};
 ghost use Rattle.mvt_attrs.specs.FirstUse.{AreDistinct};
 ghost use Rattle.mvt_attrs.specs.Placed.{IsPlaced};
 ghost use Rattle.mvt_attrs.specs.TagPlaces.{place_in};
@@ -14,11 +14,11 @@ ghost use Rattle.mvt_rows.specs.Told.{given_of, same_given, with_entry};
 ghost use Rattle.mvt_rows.specs.Told as spec;
 
 use crate::places::Places;
-use crate::rows::PointRow;
+use crate::rows::{PartRow, PointRow};
 use crate::rows_error::RowsError;
 use crate::table::Table;
 use crate::words::{AnyValue, Given, Word};
-use crate::writing::write_rows;
+use crate::writing::{find_part, write_rows};
 use mvt_attrs::{Entry, Pool};
 use std::alloc::{AllocError, Global};
 
@@ -248,6 +248,24 @@ impl Builder {
         self.settle(added)
     }
 
+    /// Adds a whole feature, and ends the one before. Its tags are indices of keys and values; its
+    /// parts are spans of these points. It isn't due if a part reaches beyond the points.
+    pub fn add(
+        &mut self,
+        kind: u32,
+        id: Option<u64>,
+        tags: &[u32],
+        parts: &[PartRow],
+        points: &[PointRow],
+    ) -> Result<(), BuildError>
+        ensures { IsCalled self.old self.new result
+            (spec.add_feature kind id tags.now (spec.told_parts points.now parts.now)) }
+    {
+        self.enter(self.takes_parts(parts, points))?;
+        let added = self.add_feature(kind, id, tags, parts, points);
+        self.settle(added)
+    }
+
     /// Removes the feature that began last and hasn't ended.
     pub fn drop_feature(&mut self) -> Result<(), BuildError>
         ensures { IsCalled self.old self.new result spec.drop_feature }
@@ -354,6 +372,14 @@ impl Builder {
         }
     }
 
+    /// Whether a whole feature with these parts may come.
+    fn takes_parts(&self, parts: &[PartRow], points: &[PointRow]) -> bool
+        ensures { result ≡ (has_layer self.now.turn
+            && is_some (spec.told_parts points.now parts.now)) }
+    {
+        self.is_in_layer() && are_within(parts, points)
+    }
+
     /// Ends the part that has begun, if there is one.
     fn end_part(&mut self) -> Result<(), AllocError>
         ensures holds { (t : Table) (begun : spec.Begun) → Holds self.old t begun
@@ -439,6 +465,57 @@ impl Builder {
         Ok(())
     }
 
+    fn add_feature(
+        &mut self,
+        kind: u32,
+        id: Option<u64>,
+        tags: &[u32],
+        parts: &[PartRow],
+        points: &[PointRow],
+    ) -> Result<(), AllocError>
+        requires { has_layer self.old.turn ≡ true }
+        ensures { (parts_told : List spec.ToldPart)
+            → spec.told_parts points.now parts.now ≡ Some parts_told
+            → IsStep self.old self.new result
+            (spec.add_feature kind id tags.now (Some parts_told)) }
+    {
+        self.begin_feature(kind)?;
+        self.feature.id = id;
+        self.table.add_tags(tags)?;
+        self.add_parts(parts, points)?;
+        self.end_feature()
+    }
+
+    /// Adds parts, which are spans of these points, to the feature that has begun.
+    fn add_parts(&mut self, parts: &[PartRow], points: &[PointRow]) -> Result<(), AllocError>
+        ensures holds { (t : Table) (l : spec.ToldLayer) (f : spec.ToldFeature)
+            (told : List spec.ToldPart) → Holds self.old t (spec.InFeature l f)
+            → spec.told_parts points.now parts.now ≡ Some told
+            → OnOk result (Holds self.new t (spec.InFeature l (spec.with_parts f told))) }
+        ensures failure { self.new.failure ≡ self.old.failure }
+    {
+        for part in parts {
+            let Some(lent) = find_part(points, part.points) else {
+                return Ok(());
+            };
+            self.add_part(part.exterior != 0, lent)?;
+        }
+        Ok(())
+    }
+
+    /// Adds a part with its points to the feature that has begun.
+    fn add_part(&mut self, exterior: bool, points: &[PointRow]) -> Result<(), AllocError>
+        ensures holds { (t : Table) (l : spec.ToldLayer) (f : spec.ToldFeature)
+            → Holds self.old t (spec.InFeature l f)
+            → OnOk result (Holds self.new t
+            (spec.InFeature l (spec.with_part f (spec.new_part exterior points.now)))) }
+        ensures failure { self.new.failure ≡ self.old.failure }
+    {
+        let start = self.table.point_count();
+        self.table.add_points(points)?;
+        self.table.add_part_row(exterior, start)
+    }
+
     fn begin_part(&mut self, exterior: bool) -> Result<(), AllocError>
         requires { has_feature self.old.turn ≡ true }
         ensures { IsStep self.old self.new result (spec.begin_part self.old.feature.kind exterior) }
@@ -493,6 +570,18 @@ impl Builder {
         let value = self.value_index(value)?;
         self.table.add_tags(&[key, value])
     }
+}
+
+/// Whether each part is a span of these points.
+fn are_within(parts: &[PartRow], points: &[PointRow]) -> bool
+    ensures { result ≡ is_some (spec.told_parts points.now parts.now) }
+{
+    for part in parts {
+        let Some(_lent) = find_part(points, part.points) else {
+            return false;
+        };
+    }
+    true
 }
 
 /// The index of an entry in a pool, to which it is added where it isn't there. A pool that is full

@@ -30,6 +30,7 @@ use mvt_base::Text;
 use mvt_message::are_of_version;
 use mvt_tile::NameSet;
 use mvt_tile_value::encode_payload;
+pub(crate) use parts::find_part;
 use parts::part;
 use std::alloc::{AllocError, Global};
 use std::str;

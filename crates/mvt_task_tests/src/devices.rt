@@ -16,6 +16,18 @@ fn expect_untouched(rt: &impl Abort, calls: Calls) {
     expect_eq!(rt; calls.flushes, 0);
 }
 
+// The version is told whatever the input is, which isn't read.
+#[test]
+fn tells_the_version(rt: HostRuntime) {
+    let failing = Streams {
+        read_from: 0,
+        ..SOUND
+    };
+    let answer: (u8, &[u8], &str) = (0, b"mvt 0.3.0\n", "");
+    let calls = expect_run(&rt, Command::Version, ONE_POINT, failing, answer);
+    expect_eq!(rt; calls.flushes, 1);
+}
+
 // A complete output is flushed once, and that of a refused tile isn't touched; the fields are told
 // up to the broken one.
 #[test]

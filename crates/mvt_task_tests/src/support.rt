@@ -67,6 +67,7 @@ pub(super) enum Command {
     Lint,
     Rewrite,
     Extract(&'static [&'static str]),
+    Version,
 }
 
 pub(super) fn names_of(alloc: Global, texts: &[&str]) -> Result<Vec<String>, AllocError> {
@@ -87,6 +88,7 @@ pub(super) fn task_of(alloc: Global, command: Command) -> Result<Task, AllocErro
         Command::Lint => Ok(Task::Lint),
         Command::Rewrite => Ok(Task::Rewrite),
         Command::Extract(names) => Ok(Task::Extract(Names::new(names_of(alloc, names)?))),
+        Command::Version => Ok(Task::Version),
     }
 }
 

@@ -8,8 +8,8 @@ use Rattle.mvt_tile.specs.TileRules.{fault_within}
 use Rattle.mvt_tile_value.specs.Tiles.{IsTile}
 use Rattle.mvt_tasks.specs.declared.reply.Reply.{Reply}
 use Rattle.mvt_tasks.specs.declared.task.Task.{Task}
-use Rattle.mvt_tasks.specs.declared.task.Task.TheVariants.{Fields, Show, Draw, Check, Explain, Lint, Rewrite, Extract}
-use Rattle.mvt_tasks.specs.Output.{IsReply, IsJudged, IsPrinted, fault_reply, fields_reply, bytes_reply, layers_reply, lint_reply, done, json_lines, svg_lines, check_lines, told_why}
+use Rattle.mvt_tasks.specs.declared.task.Task.TheVariants.{Fields, Show, Draw, Check, Explain, Lint, Rewrite, Extract, Version}
+use Rattle.mvt_tasks.specs.Output.{IsReply, IsJudged, IsPrinted, fault_reply, fields_reply, bytes_reply, layers_reply, lint_reply, done, json_lines, svg_lines, check_lines, told_why, version_line}
 
 there_is : (of_tile : Tile → Reply) (of_fault : Fault → Reply) (input : List ℕ) (o : Option Fault) → fault_within LIMIT input ≡ o
     → (o ≡ None → (tile : Tile) × IsTile LIMIT input tile) → (reply : Reply) × IsJudged LIMIT of_tile of_fault input reply
@@ -32,6 +32,7 @@ has_reply Explain input = judged (λ tile. done (check_lines input tile)) (told_
 has_reply Lint input = printed lint_reply input
 has_reply Rewrite input = printed (bytes_reply LIMIT) input
 has_reply (Extract names) input = printed (layers_reply LIMIT names) input
+has_reply Version input = (done version_line, refl)
 
 judged_once : (of_tile : Tile → Reply) (of_fault : Fault → Reply) (input : List ℕ) (a b : Reply) → IsJudged LIMIT of_tile of_fault input a
     → IsJudged LIMIT of_tile of_fault input b → a ≡ b
@@ -60,3 +61,4 @@ has_one_reply Explain input a b a_is b_is =
 has_one_reply Lint input a b a_is b_is = printed_once lint_reply input a b a_is b_is
 has_one_reply Rewrite input a b a_is b_is = printed_once (bytes_reply LIMIT) input a b a_is b_is
 has_one_reply (Extract names) input a b a_is b_is = printed_once (layers_reply LIMIT names) input a b a_is b_is
+has_one_reply Version input a b a_is b_is = a_is ∙ sym b_is

@@ -26,7 +26,7 @@ use Rattle.mvt_tasks.specs.declared.reply.Reply.{Reply}
 use Rattle.mvt_tasks.specs.declared.viewing.View.{View}
 use Rattle.mvt_tasks.specs.declared.viewing.View.TheVariants.{Json, Svg}
 use Rattle.mvt_tasks.specs.declared.task.Task.{Task}
-use Rattle.mvt_tasks.specs.declared.task.Task.TheVariants.{Fields, Show, Draw, Check, Explain, Lint, Rewrite, Extract}
+use Rattle.mvt_tasks.specs.declared.task.Task.TheVariants.{Fields, Show, Draw, Check, Explain, Lint, Rewrite, Extract, Version}
 
 -- a text is written, and no line is told
 abbrev pub done : List ℕ → Reply
@@ -112,6 +112,10 @@ told_why limit bytes fault = record {
 abbrev pub IsExplained : ℕ → List ℕ → List ℕ → Reply → Type 0
 IsExplained limit bytes input reply = IsJudged limit (λ tile. done (check_lines input tile)) (told_why limit bytes) input reply
 
+-- the program's name and version
+abbrev pub version_line : List ℕ
+version_line = codes "mvt 0.3.0\n"
+
 -- what a task answers for an input
 abbrev pub IsReply : ℕ → Task → List ℕ → Reply → Type 0
 IsReply limit Fields input reply = reply ≡ fields_reply limit input
@@ -122,8 +126,9 @@ IsReply limit Explain input reply = IsExplained limit (take (limit + 1) input) i
 IsReply limit Lint input reply = IsPrinted limit lint_reply input reply
 IsReply limit Rewrite input reply = IsPrinted limit (bytes_reply limit) input reply
 IsReply limit (Extract names) input reply = IsPrinted limit (layers_reply limit names) input reply
+IsReply limit Version input reply = reply ≡ done version_line
 
--- how far a task reads: at most one byte beyond the limit; or no further after a fault
+-- how far a task reads: at most one byte beyond the limit; or no further after a fault; or not at all
 abbrev pub ReadsNoFurther : ℕ → Task → Inflow → Inflow → Type 0
 ReadsNoFurther limit Fields old new = TakesAtMost (limit + 1) old.left new.left
 ReadsNoFurther limit Show old new = StopsEarly limit new.given old.left new.left
@@ -133,6 +138,7 @@ ReadsNoFurther limit Explain old new = TakesAtMost (limit + 1) old.left new.left
 ReadsNoFurther limit Lint old new = StopsEarly limit new.given old.left new.left
 ReadsNoFurther limit Rewrite old new = StopsEarly limit new.given old.left new.left
 ReadsNoFurther limit (Extract names) old new = StopsEarly limit new.given old.left new.left
+ReadsNoFurther limit Version old new = new ≡ old
 
 -- a line is told exactly with status 1; 5 says that there are findings
 abbrev pub status_with : Option (List ℕ) → Bool → ℕ

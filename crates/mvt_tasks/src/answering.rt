@@ -14,6 +14,7 @@ use crate::listing::list_fields;
 use crate::reply::Reply;
 use crate::rewriting::rewrite;
 use crate::task::Task;
+use crate::version::told_version;
 use crate::viewing::{View, view_tile};
 use mvt_base::LIMIT;
 use mvt_io::Source;
@@ -43,5 +44,6 @@ pub fn answer<R: Source>(alloc: Global, task: Task, reader: &mut R) -> Result<Re
         Task::Lint => lint_tile(alloc, reader),
         Task::Rewrite => rewrite(alloc, reader),
         Task::Extract(names) => extract_layers(alloc, &names, reader),
+        Task::Version => told_version(alloc),
     }
 }

@@ -21,6 +21,7 @@ mod rewriting;
 mod running;
 mod tally;
 mod task;
+mod version;
 mod viewing;
 
 pub use answering::answer;

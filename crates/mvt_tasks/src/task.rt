@@ -21,4 +21,6 @@ pub enum Task {
     Rewrite,
     /// The named layers in canonical form.
     Extract(Names),
+    /// The program's name and version; no input is read.
+    Version,
 }

@@ -1,6 +1,7 @@
 pub mod FaultLines
 pub mod FieldLines
 pub mod JsonForms
+pub mod Kinds
 pub mod LintLines
 pub mod Reports
 pub mod Runs

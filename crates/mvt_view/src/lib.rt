@@ -4,6 +4,7 @@
 mod fault;
 mod fields;
 mod json_part;
+mod kinds;
 pub mod laws;
 mod lint_lines;
 mod numbers;
@@ -18,6 +19,7 @@ mod xml;
 
 pub use fault::fault_text;
 pub use fields::{FieldsText, fields_text};
+pub use kinds::{FindingKind, NoteKind};
 pub use lint_lines::lint_text;
 pub use quoted::push_quoted;
 pub use report::{report_text, survey_text};

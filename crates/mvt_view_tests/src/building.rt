@@ -1,7 +1,8 @@
 //! Tiles that are made step by step.
 use crate::expect::expect_eq;
 use mvt_rows::{
-    AnyValue, BuildError, Builder, FinishError, PointRow, RowsCause, RowsError, RowsFault,
+    AnyValue, BuildError, Builder, FinishError, PartRow, PointRow, RowsCause, RowsError, RowsFault,
+    Span,
 };
 use mvt_tile::rewrite;
 use std::process::Abort;
@@ -50,6 +51,13 @@ const fn text(text: &[u8]) -> AnyValue<'_> {
 
 fn point(x: i32, y: i32) -> PointRow {
     PointRow { x, y }
+}
+
+fn part(exterior: u32, start: u64, len: u64) -> PartRow {
+    PartRow {
+        exterior,
+        points: Span { start, len },
+    }
 }
 
 fn expect_finished(rt: &(impl Abort + AllocGlobal), builder: Builder, bytes: &[u8]) {
@@ -120,6 +128,42 @@ fn builds_each_geometry(rt: HostRuntime) {
     expect_eq!(rt; builder.points(&[point(0, 0), point(1, 0), point(1, 1)]), Ok(()));
     expect_eq!(rt; builder.foreign(1, &[0x78, 0x01]), Ok(()));
     expect_finished(&rt, builder, &ALL);
+}
+
+// The same tile, feature by feature.
+#[test]
+fn builds_whole_features(rt: HostRuntime) {
+    let mut builder = Builder::new(rt.alloc());
+    expect_eq!(rt; builder.layer(rt.alloc(), b"b", 4096), Ok(()));
+    expect_eq!(rt; builder.key(b"name"), Ok(0));
+    expect_eq!(rt; builder.value(&text(b"x")), Ok(0));
+    let points = [point(0, 0), point(1, 1), point(2, 2), point(1, 0)];
+    expect_eq!(rt; builder.add(1, Some(7), &[0, 0], &[part(0, 0, 2)], &points), Ok(()));
+    expect_eq!(rt; builder.feature(2), Ok(()));
+    expect_eq!(rt; builder.tag_at(0, 0), Ok(()));
+    expect_eq!(rt; builder.line(), Ok(()));
+    expect_eq!(rt; builder.points(&[point(0, 0), point(2, 2)]), Ok(()));
+    let ring = [point(0, 0), point(1, 0), point(1, 1)];
+    expect_eq!(rt; builder.add(3, None, &[], &[part(1, 0, 3)], &ring), Ok(()));
+    expect_eq!(rt; builder.foreign(1, &[0x78, 0x01]), Ok(()));
+    expect_finished(&rt, builder, &ALL);
+}
+
+#[test]
+fn wants_parts_within_the_points(rt: HostRuntime) {
+    let points = [point(0, 0), point(2, 2)];
+    for (start, len) in [(0, 3), (2, 1), (3, 0), (u64::MAX, 1), (1, u64::MAX)] {
+        let mut builder = begun(&rt);
+        let late = builder.add(2, None, &[], &[part(0, 0, 2), part(0, start, len)], &points);
+        expect_late(&rt, builder, late);
+    }
+    let mut builder = Builder::new(rt.alloc());
+    let late = builder.add(1, None, &[], &[], &[]);
+    expect_late(&rt, builder, late);
+    let mut builder = begun(&rt);
+    expect_eq!(rt; builder.add(1, None, &[], &[part(0, 0, 1)], &points), Ok(()));
+    let late = builder.id(7);
+    expect_late(&rt, builder, late);
 }
 
 // Integers of unknown type are carried as they are.

@@ -24,7 +24,7 @@ use mvt_base::Text;
 use mvt_feature::Scratch;
 use mvt_message::LayerWriter;
 use mvt_wire::PackedNumbers;
-use std::alloc::{AllocError, Global};
+use std::alloc::Global;
 
 /// The canonical payload of the layer of a row with this name; `None` if its features alone are
 /// more bytes than the limit.
@@ -100,11 +100,11 @@ struct FeatureLists {
 }
 
 impl FeatureLists {
-    fn with_room(alloc: Global) -> Result<Self, AllocError> {
-        Ok(FeatureLists {
-            scratch: Scratch::with_room(alloc)?,
+    fn new(alloc: Global) -> Self {
+        FeatureLists {
+            scratch: Scratch::new(alloc),
             integers: PackedNumbers::new(alloc),
-        })
+        }
     }
 }
 
@@ -128,7 +128,7 @@ fn write_features(
         of_layer.now)) }
 {
     let mut layer_keys = LayerKeys::new(alloc, keys);
-    let mut lists = FeatureLists::with_room(alloc)?;
+    let mut lists = FeatureLists::new(alloc);
     for (index, row) in of_layer.iter().enumerate() {
         let keys = &mut layer_keys;
         match write_feature(alloc, rows, row, keys, work, &mut lists, writer) {

@@ -30,7 +30,7 @@ pub(crate) fn part<'a, T>(
     }
 }
 
-fn find_part<T>(list: &[T], span: Span) -> Option<&[T]>
+pub(crate) fn find_part<T>(list: &[T], span: Span) -> Option<&[T]>
     ensures { MatchOption result (part_of list.now span ≡ None)
         (λ part. part_of list.now span ≡ Some part.now) }
 {

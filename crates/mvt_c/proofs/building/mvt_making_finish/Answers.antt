@@ -28,3 +28,13 @@ returns-in-Err-Rows-NoTile-clause-no_tile c = λ six told has.
     let why = c.in-Err-Rows-NoTile in
     (subst (NotWritten (told_rows told)) why.field-0-0-is
     (subst (NotFinished (told_rows told)) why.field-0-is (why.ensures.refused told now))).0
+
+pub returns-in-Err-Rows-NoTile-clause-fault : goal.returns-in-Err-Rows-NoTile-clause-fault
+returns-in-Err-Rows-NoTile-clause-fault c = λ six told has.
+    let now = subst (λ (m : Making). HasTold m.inner told) (sym (c.into_inner-inner.ensures ∙ c.into_box.ensures)) has in
+    let why = c.in-Err-Rows-NoTile in (
+      _,
+      (subst (NotWritten (told_rows told)) why.field-0-0-is
+          (subst (NotFinished (told_rows told)) why.field-0-is (why.ensures.refused told now))).1,
+      c.row_of.ensures,
+    )

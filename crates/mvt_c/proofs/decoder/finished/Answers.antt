@@ -1,6 +1,5 @@
 use Rattle.std.proofs.Common.{◌<◌, rules, ap, sym, subst, ◌∙◌}
 use Rattle.std.proofs.lemmas.Bool.Decides.{nat_tests}
-use Rattle.mvt_rows.specs.ReadTables.{read_table}
 use Rattle.mvt_rows.specs.Tables.{table_size}
 use Rattle.mvt_rows.specs.TileRows.{IsTileOf}
 use Rattle.std.proofs.lemmas.Result.{err_from_is_err_and}

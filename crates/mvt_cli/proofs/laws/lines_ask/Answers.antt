@@ -1,10 +1,10 @@
 use Rattle.std.proofs.Common.{refl}
 use Rattle.clap.proofs.OnLiterals.{clap_on_literals}
-use Rattle.mvt_cli.specs.Words.{mvt, extract_app, files_app}
+use Rattle.mvt_cli.specs.Words.{mvt, bare_mvt, extract_app, files_app}
 use Rattle.mvt_cli.proofs.laws.lines_ask.Goals as goal
 
 pub returns : goal.returns
-unfolding clap_on_literals mvt extract_app files_app
+unfolding clap_on_literals mvt bare_mvt extract_app files_app
 returns c = record {
   nothing = refl;
   alone = λ name. refl;
@@ -16,4 +16,7 @@ returns c = record {
   lint = λ name. refl;
   rewrite = λ name. refl;
   extract = λ name. refl;
+  version = λ name. refl;
+  short = λ name. refl;
+  before = λ name. refl;
 }

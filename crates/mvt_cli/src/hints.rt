@@ -1,0 +1,206 @@
+//! What a person at a terminal is told below the program's lines: what an input looks like that is
+//! no tile, and why one can't be read.
+ghost use Rattle.std.specs.Prelude.{◌≡◌, Option, Some, IfOk, string_bytes};
+ghost use Rattle.std.specs.Option.{option_map};
+ghost use Rattle.mvt_places.specs.Lookalikes.{lookalike_of};
+ghost use Rattle.mvt_cli.specs.Hints.{hint_of, look_of, odd_begin};
+
+use mvt_base::Text;
+use mvt_io::Source;
+use mvt_places::{Lookalike, looks_like};
+use mvt_tasks::Folder;
+use std::alloc::{AllocError, Global};
+use std::io::ErrorKind;
+
+/// What is odd about an input.
+#[derive(Clone, Copy, Debug)]
+pub enum Oddity {
+    /// It begins as something does that is no tile.
+    Looks(Lookalike),
+    /// It can't be opened or read.
+    Unread(ErrorKind),
+}
+
+/// A reader that notes how its bytes begin, and why a read failed.
+#[derive(Drop)]
+pub struct Watched<R> {
+    inner: R,
+    is_begun: bool,
+    oddity: Option<Oddity>,
+}
+
+impl<R> Watched<R> {
+    /// A reader of which nothing was read.
+    pub fn new(inner: R) -> Self
+        ensures { result.inner ≡ inner }
+    {
+        Watched {
+            inner,
+            is_begun: false,
+            oddity: None,
+        }
+    }
+
+    /// What was odd so far.
+    pub fn oddity(&self) -> Option<Oddity>
+        ensures { result ≡ self.now.oddity }
+    {
+        self.oddity
+    }
+
+    /// Looks at the first bytes that a read gave.
+    fn note(&mut self, bytes: &[u8])
+        ensures same { self.new.inner ≡ self.old.inner }
+        ensures looks { self.new.oddity ≡ odd_begin self.old.is_begun bytes.now self.old.oddity }
+    {
+        if !self.is_begun && !bytes.is_empty() {
+            self.is_begun = true;
+            self.oddity = look(bytes);
+        }
+    }
+}
+
+/// What the first bytes look like, if that is odd.
+fn look(bytes: &[u8]) -> Option<Oddity>
+    ensures { result ≡ look_of (lookalike_of bytes.now) }
+{
+    match looks_like(bytes) {
+        Some(lookalike) => Some(Oddity::Looks(lookalike)),
+        None => None,
+    }
+}
+
+impl<R: Source> Source for Watched<R> {
+    ghost state = { λ w. R.state w.inner };
+
+    fn read(&mut self, buffer: &mut [u8]) -> Result<usize, ErrorKind> {
+        match self.inner.read(buffer) {
+            Ok(count) => {
+                self.note(&buffer[..count]);
+                Ok(count)
+            }
+            Err(kind) => {
+                self.oddity = Some(Oddity::Unread(kind));
+                Err(kind)
+            }
+        }
+    }
+}
+
+/// A folder that notes the first file about which something is odd.
+#[derive(Drop)]
+pub struct WatchedFolder<F> {
+    alloc: Global,
+    inner: F,
+    noted: Option<(Text, Oddity)>,
+}
+
+impl<F> WatchedFolder<F> {
+    /// A folder of which nothing was opened.
+    pub fn new(alloc: Global, inner: F) -> Self
+        ensures { result.inner ≡ inner }
+    {
+        WatchedFolder {
+            alloc,
+            inner,
+            noted: None,
+        }
+    }
+
+    /// The first odd file, by its name.
+    pub fn noted(&self) -> &Option<(Text, Oddity)>
+        ensures { result.now ≡ self.now.noted }
+    {
+        &self.noted
+    }
+
+    /// Without memory for the name nothing is noted.
+    fn note(&mut self, name: Result<Text, AllocError>, oddity: Option<Oddity>)
+        ensures { self.new.inner ≡ self.old.inner }
+    {
+        if self.noted.is_some() {
+            return;
+        }
+        if let (Ok(name), Some(oddity)) = (name, oddity) {
+            self.noted = Some((name, oddity));
+        }
+    }
+}
+
+impl<F: Folder> Folder for WatchedFolder<F> {
+    type Reader = Watched<F::Reader>;
+
+    ghost holds = { λ f. F.holds f.inner };
+
+    ghost visits = { λ f. F.visits f.inner };
+
+    ghost open_files = { λ f. F.open_files f.inner };
+
+    ghost missing = { λ f. F.missing f.inner };
+
+    fn open(&mut self, name: &str) -> Result<Self::Reader, ErrorKind> {
+        match self.inner.open(name) {
+            Ok(reader) => Ok(Watched::new(reader)),
+            Err(kind) => {
+                let text = Text::from_str(self.alloc, name);
+                self.note(text, Some(Oddity::Unread(kind)));
+                Err(kind)
+            }
+        }
+    }
+
+    fn close(&mut self, name: Text, reader: Self::Reader) {
+        let Watched { inner, oddity, .. } = reader;
+        let copy = name.copy(self.alloc);
+        self.inner.close(name, inner);
+        self.note(copy, oddity);
+    }
+}
+
+/// The line about an odd input, or nothing if there is nothing to add; `file` is the input's name,
+/// if it has one.
+#[tactic(auto, unfolding(crate::specs::Hints::hint_of))]
+pub fn hint(alloc: Global, file: &str, oddity: Oddity) -> Result<String, AllocError>
+    ensures { IfOk result (λ line. string_bytes line ≡ hint_of file.now oddity) }
+{
+    match oddity {
+        Oddity::Looks(Lookalike::Gzip) => {
+            format!(in alloc; "mvt: it looks like gzip: gunzip -c {file} | mvt check\n")
+        }
+        Oddity::Looks(Lookalike::Zlib) => {
+            format!(in alloc;
+                "mvt: it looks like zlib: zlib-flate -uncompress < {file} | mvt check\n"
+            )
+        }
+        Oddity::Looks(Lookalike::Zstd) => {
+            format!(in alloc; "mvt: it looks like zstd: zstd -dc {file} | mvt check\n")
+        }
+        Oddity::Looks(Lookalike::Sqlite) => {
+            format!(in alloc; "mvt: it looks like MBTiles: mvt-tile {file} Z/X/Y | mvt check\n")
+        }
+        Oddity::Looks(Lookalike::Pmtiles) => {
+            format!(in alloc; "mvt: it looks like PMTiles: mvt-tile {file} Z/X/Y | mvt check\n")
+        }
+        Oddity::Looks(Lookalike::Png) => String::from_str(
+            alloc,
+            "mvt: it looks like a PNG picture\n",
+        ),
+        Oddity::Looks(Lookalike::Json) => String::from_str(alloc, "mvt: it looks like JSON\n"),
+        Oddity::Looks(Lookalike::Html) => {
+            String::from_str(
+                alloc,
+                "mvt: it looks like HTML, as a server's page about an error\n",
+            )
+        }
+        Oddity::Unread(ErrorKind::NotFound) => {
+            format!(in alloc; "mvt: {file}: there is no such file\n")
+        }
+        Oddity::Unread(ErrorKind::PermissionDenied) => {
+            format!(in alloc; "mvt: {file}: no permission to read it\n")
+        }
+        Oddity::Unread(ErrorKind::IsADirectory) => {
+            format!(in alloc; "mvt: {file}: it is a folder: mvt-audit {file} --into audit\n")
+        }
+        Oddity::Unread(_) => Ok(String::new(alloc)),
+    }
+}
