@@ -2,9 +2,9 @@
 """Times mvt-audit over MBTiles files and PMTiles archives, beside `mvt check FILE..` over the same tiles: audit.py TILES
 MVT [COUNT..]
 
-TILES is a folder that examples/producers/gdal and tilemaker filled. Of its tiles those of 700 to 1,400 bytes are taken in
+TILES is a folder that evidence/producers/gdal and tilemaker filled. Of its tiles those of 700 to 1,400 bytes are taken in
 turn, compressed by gzip, as caches are, until there are so many: 100,000 and 1,000,000 where no count is given. MVT is the
-program. The module mvt has to be found (PYTHONPATH). Peaks of memory are of the client and of its largest
+program. The modules mvt and mvt_tools have to be found (PYTHONPATH). Peaks of memory are of the client and of its largest
 worker, seen twenty times a second. The microseconds of a processor are those that the client says it took from the first
 tile to the last, and those of all workers together, without what they take for one tile. A client feeds as many workers as
 take the time that a tile takes it itself."""
@@ -22,13 +22,13 @@ from pathlib import Path
 
 import psutil
 from mvt._mvt import answer, looked_at
-from mvt.audit import engine, processes
-from mvt.audit.judging import judged_part
-from mvt.audit.results import Block, Results
-from mvt.audit.stores import opened
-from mvt.audit.unpacking import unpacked
+from mvt_tools.audit import engine, processes
+from mvt_tools.audit.judging import judged_part
+from mvt_tools.audit.results import Block, Results
+from mvt_tools.stores import opened
+from mvt_tools.stores.unpacking import unpacked
 
-sys.path.append(str(Path(__file__).resolve().parents[1] / "tests" / "library" / "audit"))
+sys.path.append(str(Path(__file__).resolve().parents[1] / "tests" / "tools" / "audit"))
 import archives  # noqa: E402
 
 WORKERS = 4
@@ -114,7 +114,7 @@ class Seen:
 
 
 def audited(path, room, *more):
-    words = [sys.executable, "-m", "mvt.audit", path, "--into", room, "--workers", str(WORKERS), "--json", *more]
+    words = [sys.executable, "-m", "mvt_tools.audit", path, "--into", room, "--workers", str(WORKERS), "--json", *more]
     seen = Seen()
     with open(Path(room, "out"), "w+") as out:
         begun = time.monotonic()

@@ -5,13 +5,15 @@
 //
 // Each run has a process of its own. Prints the time for the larger, and how many times that of the
 // smaller it is, beside the ratio of the sizes: of the bytes, and of what overlaps the bytes of the
-// rows.
+// rows. Then the dearest tiles of up to 64 MiB: the time of judging and of reading, and how much
+// memory grew at most.
 #include "hostile.hpp"
 #include "mvt.h"
 #include "run.hpp"
 
 #include <cstdint>
 #include <cstdio>
+#include <cstdlib>
 #include <string>
 #include <vector>
 
@@ -37,7 +39,7 @@ struct Table {
 static Run written(const mvt_tile& tile) {
     return run_apart([&] {
         mvt_bytes out{};
-        return std::uint64_t{mvt_write(&tile, &out)} + 1;
+        return std::uint64_t{mvt_write(&tile, &out, NULL)} + 1;
     });
 }
 
@@ -110,7 +112,7 @@ static std::vector<Run> runs_of(const std::string& tile) {
     const auto len = tile.size();
     mvt_tile rows{};
     mvt_fault fault{};
-    if (mvt_read(bytes, len, &rows, &fault) != MVT_OK) std::exit(1);
+    if (mvt_read(bytes, len, UINT64_MAX, &rows, &fault) != MVT_OK) std::exit(1);
     const mvt_bytes name{rows.texts + rows.layers[0].name.start, rows.layers[0].name.len};
     const std::vector<Run> runs{
         run_apart([&] {
@@ -130,12 +132,12 @@ static std::vector<Run> runs_of(const std::string& tile) {
         run_apart([&] {
             mvt_fault f;
             mvt_bytes out;
-            return std::uint64_t{mvt_extract(bytes, len, &name, 1, &out, &f)} + 1;
+            return std::uint64_t{mvt_extract(bytes, len, &name, 1, &out, &f, NULL)} + 1;
         }),
         run_apart([&] {
             mvt_fault f;
             mvt_tile out;
-            return std::uint64_t{mvt_read(bytes, len, &out, &f)} + 1;
+            return std::uint64_t{mvt_read(bytes, len, UINT64_MAX, &out, &f)} + 1;
         }),
         written(rows),
     };
@@ -195,6 +197,45 @@ static void tiles() {
         "layers whose names have one hash", many_names(10'000, front), many_names(40'000, front));
 }
 
+static void dear(const char* name, const std::string& tile) {
+    const auto* bytes = reinterpret_cast<const std::uint8_t*>(tile.data());
+    const auto size = tile.size() / 1e6;
+    const auto judged = run_apart([&] {
+        mvt_fault fault;
+        return std::uint64_t{mvt_judge(bytes, tile.size(), &fault)} + 1;
+    });
+    const auto read = run_apart([&] {
+        mvt_fault fault;
+        mvt_tile out;
+        return std::uint64_t{mvt_read(bytes, tile.size(), UINT64_MAX, &out, &fault)} + 1;
+    });
+    if (judged.answer != 1 || read.answer != 1) {
+        std::printf("%s: %s\n", name, answer(read));
+        std::exit(1);
+    }
+    std::printf("| %s | %.1f | %.3f | %.0f, %.1f | %.3f | %.0f, %.1f |\n", name, size, judged.seconds,
+        judged.megabytes, judged.megabytes / size, read.seconds, read.megabytes,
+        read.megabytes / size);
+    std::fflush(stdout);
+}
+
+static void dearest() {
+    const auto front = forgetful_front();
+    std::printf(
+        "\n| Tile | Size, MB | `mvt_judge`, s | Peak, MB, times the size | `mvt_read`, s | Peak, MB, "
+        "times the size |\n|---|---|---|---|---|---|\n");
+    dear("33,554,000 features without fields", bare_features(33'554'000));
+    dear("4,200,000 layers without features", small_layers(4'200'000));
+    dear("11,180,000 lines of 2 points in one feature",
+        many_strokes(2, 11'180'000, {9, 0, 0, 10, 4, 2}));
+    dear("7,450,000 rings of 3 points in one feature",
+        many_strokes(3, 7'450'000, {9, 0, 0, 18, 4, 0, 3, 4, 15}));
+    dear("one feature of 10,000,000 tags", many_tags(5'000'000));
+    dear("one text of 65,536 bytes in 10,000 features", long_text(65'536, 10'000));
+    dear("40,000 keys of one hash in one feature", many_attributes(40'000, front));
+    dear("40,000 layers whose names have one hash", many_names(40'000, front));
+}
+
 int main() {
     tiles();
     std::printf(
@@ -207,4 +248,5 @@ int main() {
         same_parts(500, 500, 500), same_parts(2'000, 2'000, 2'000));
     overlap("names of which each is the end of one text", same_text(2'000, 20'000),
         same_text(8'000, 80'000));
+    dearest();
 }

@@ -5,6 +5,6 @@ set -euo pipefail
 cd "$(dirname "$0")/.."
 library/build
 mkdir -p bench/out
-g++ -std=c++17 -O2 -DNDEBUG -march=x86-64-v2 -Ilibrary \
+g++ -std=c++17 -O2 -DNDEBUG -march=x86-64-v2 -Ilibrary/c \
   -o bench/out/growth bench/growth.cc library/out/libmvt.a
 bench/out/growth

@@ -175,20 +175,3 @@ inline std::string long_texts(std::uint64_t count) {
     }
     return layer.finish();
 }
-
-// A million points in one feature.
-inline std::string many_points() {
-    std::mt19937 random{3};
-    std::vector<std::uint32_t> integers{1 + 8 * 1'000'000};
-    for (int i = 0; i < 2'000'000; ++i) integers.push_back(2 * (random() % 9));
-    Layer layer{"points"};
-    layer.add(nullptr, {}, 1, integers);
-    return tile_of(layer.finish());
-}
-
-// A million features without id, attributes and points.
-inline std::string empty_features() {
-    Layer layer{"empty"};
-    for (int i = 0; i < 1'000'000; ++i) layer.add(nullptr, {}, 0, {});
-    return tile_of(layer.finish());
-}

@@ -25,7 +25,7 @@ static std::uint64_t judged(const std::string& tile) {
 static std::uint64_t read(const std::string& tile) {
     mvt_tile rows;
     mvt_fault fault;
-    if (mvt_read(bytes_of(tile), tile.size(), &rows, &fault) != MVT_OK) return 0;
+    if (mvt_read(bytes_of(tile), tile.size(), UINT64_MAX, &rows, &fault) != MVT_OK) return 0;
     const std::uint64_t sum = 1 + rows.layer_count + rows.feature_count;
     mvt_tile_free(&rows);
     return sum;

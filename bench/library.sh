@@ -7,8 +7,8 @@ folder=$(realpath "$1")
 cd "$(dirname "$0")/.."
 library/build
 mkdir -p bench/out
-protoc --cpp_out=bench/out --proto_path=examples/tiles examples/tiles/vector_tile.proto
-g++ -std=c++17 -O2 -DNDEBUG -march=x86-64-v2 -Ilibrary -Ibench/out \
+protoc --cpp_out=bench/out --proto_path=fixtures/tiles fixtures/tiles/vector_tile.proto
+g++ -std=c++17 -O2 -DNDEBUG -march=x86-64-v2 -Ilibrary/c -Ibench/out \
   -o bench/out/library bench/library.cc \
   bench/out/vector_tile.pb.cc library/out/libmvt.a -lprotobuf -lpthread
 bench/out/library "$folder"

@@ -1,22 +1,26 @@
 #!/usr/bin/env python3
-"""Tiles as objects of Python, by the module mvt, by protobuf's module, by GDAL, and as shapes of shapely.
+"""Tiles as objects of Python, by the module mvt, by protobuf's module, by GDAL, and as shapes of shapely; as columns of numpy
+and geopandas; and as GeoJSON.
 
     objects.py [ROUNDS]
 
 Three made tiles: points with attributes, long lines, and polygons with holes. Each way gives features with attributes and
 lists of points; the ways take turns, and the best of the rounds counts, in a processor's time. Before, what is read is
 compared. A way whose module isn't there is left out. Wants `mvt`; protobuf is python3-protobuf, GDAL python3-gdal, shapely
-python3-shapely.
+python3-shapely, geopandas python3-geopandas.
 """
 
+import json
 import math
 import sys
 import time
+from importlib.util import find_spec
 
 import mvt
 
 WAYS = {}
 KINDS = ("unknown", "points", "lines", "polygons")
+PLACE = (14, 8192, 8191)
 
 
 def way(does, name):
@@ -67,6 +71,25 @@ def read(tile, _):
 @way("write", "mvt.write")
 def write(_, tile):
     return mvt.write(tile)
+
+
+@way("geojson", "mvt.to_geojson")
+def geojson(tile, _):
+    return json.dumps(mvt.to_geojson(tile, *PLACE)).encode()
+
+
+if find_spec("numpy") is not None:
+
+    @way("columns", "Rows.frame")
+    def columns(tile, _):
+        return mvt.rows(tile).frame("a")
+
+
+if find_spec("geopandas") is not None:
+
+    @way("columns", "mvt.to_geopandas")
+    def frame(tile, _):
+        return mvt.to_geopandas(mvt.rows(tile).frame("a"), *PLACE)
 
 
 def protobuf_tile():
@@ -203,6 +226,18 @@ try:
             made.append((feature.GetFID(), feature.items(), rings or geometry.GetPoints()))
         gdal.Unlink("/vsimem/tile.mvt")
         return made
+
+    @way("geojson", "GDAL")
+    def geojson_gdal(tile, _):
+        gdal.FileFromMemBuffer("/vsimem/tile.mvt", tile)
+        place = [f"{name}={number}" for name, number in zip("ZXY", PLACE)]
+        held = gdal.OpenEx("MVT:/vsimem/tile.mvt", gdal.OF_VECTOR, open_options=["CLIP=NO", *place])
+        gdal.VectorTranslate("/vsimem/out.geojson", held, options=["-f", "GeoJSON", "-lco", "RFC7946=YES"])
+        file = gdal.VSIFOpenL("/vsimem/out.geojson", "rb")
+        text = gdal.VSIFReadL(1, 1 << 30, file)
+        gdal.VSIFCloseL(file)
+        gdal.Unlink("/vsimem/out.geojson")
+        return text
 except ImportError:
     pass
 
@@ -245,7 +280,7 @@ def main():
                 best[key] = min(best[key], time.process_time() - start)
         print("%s, %d kB" % (name, len(tile) // 1000))
         for (does, by), seconds in best.items():
-            print("  %-6s %-22s %6.0f ms" % (does, by, 1000 * seconds))
+            print("  %-7s %-22s %6.0f ms" % (does, by, 1000 * seconds))
 
 
 main()

@@ -2,7 +2,7 @@
 """Measures `mvt check`, `show`, `rewrite` and `extract` on a tile of 500 kB, on one that is a single layer of
 25 MB, and on one of 60 MiB, beside `protoc --decode` and GDAL's `ogrinfo` on the same tiles.
 
-    bench/program.py [crates/mvt_cli/out/mvt_cli [library/out/libmvt.so.1]]
+    bench/program.py [crates/mvt_cli/out/mvt_cli [library/out/libmvt.so]]
 
 Wants the program as `rt ci` or `rt run` leaves it, and Debian's protobuf-compiler and gdal-bin. Prints
 a table: the best wall time of the runs and the peak memory of that program alone (16 MB at least, which
@@ -19,31 +19,15 @@ import subprocess
 import sys
 import tempfile
 import time
+from pathlib import Path
+
+sys.path.insert(0, str(Path(__file__).resolve().parents[1] / "tests" / "program"))
+
+from wire import field, packed, zigzag  # noqa: E402
 
 ROUNDS = 5
 CLASSES = [b"residential", b"service", b"track", b"primary", b"footway", b"building", b"forest", b"lake"]
-PROTO = ["protoc", "-Iexamples/tiles", "--decode=Tile", "vector_tile.proto"]
-
-
-def varint(number):
-    spelled = bytearray()
-    while number > 127:
-        spelled.append(number % 128 + 128)
-        number //= 128
-    spelled.append(number)
-    return bytes(spelled)
-
-
-def scalar(number, content):
-    return varint(8 * number) + varint(content)
-
-
-def text(number, content):
-    return varint(8 * number + 2) + varint(len(content)) + content
-
-
-def zigzag(number):
-    return 2 * number if number >= 0 else -2 * number - 1
+PROTO = ["protoc", "-Ifixtures/tiles", "--decode=Tile", "vector_tile.proto"]
 
 
 def steps(points, at):
@@ -86,17 +70,16 @@ def layer(dice, name, size):
 
     while total < size:
         number += 1
-        entries = [text(1, dice.choice(CLASSES)), text(1, b"Street %d" % dice.randrange(9000)),
-                   b"\x19" + struct.pack("<d", dice.randrange(400) / 4), scalar(5, dice.randrange(60))]
-        tags = b"".join(varint(key) + varint(place(entry)) for key, entry in enumerate(entries))
+        entries = [field(1, dice.choice(CLASSES)), field(1, b"Street %d" % dice.randrange(9000)),
+                   b"\x19" + struct.pack("<d", dice.randrange(400) / 4), field(5, dice.randrange(60))]
+        tags = packed(number for key, entry in enumerate(entries) for number in (key, place(entry)))
         kind, integers = shape(dice)
-        geometry = b"".join(varint(integer) for integer in integers)
-        body = scalar(1, number) + text(2, tags) + scalar(3, kind) + text(4, geometry)
-        features.append(text(2, body))
+        body = field(1, number) + field(2, tags) + field(3, kind) + field(4, packed(integers))
+        features.append(field(2, body))
         total += len(body) + 2
-    keyed = b"".join(text(3, key) for key in keys)
-    valued = b"".join(text(4, entry) for entry in values)
-    return text(3, scalar(15, 2) + text(1, name) + b"".join(features) + keyed + valued + scalar(5, 4096))
+    keyed = b"".join(field(3, key) for key in keys)
+    valued = b"".join(field(4, entry) for entry in values)
+    return field(3, field(15, 2) + field(1, name) + b"".join(features) + keyed + valued + field(5, 4096))
 
 
 def run(words, path):

@@ -1,7 +1,7 @@
 // Measures mvt_tile and mvt_message: reading a tile of 64 MiB whole and in pieces, and writing it,
 // with protozero beside the reading.
 //
-//   bench/beside.sh tile
+//   bench/tile.sh
 //
 // Each run has a process of its own. Prints the best time of three rounds, and the largest growth
 // of memory, in which the tile's bytes don't count. What is read isn't dropped. A tile is written

@@ -1,19 +1,19 @@
 """Cases for `rt try --cases`: cases.py FOLDER. Each is an input, the words and the output that is wanted: of the example
-tiles what other programs made of them, of the broken ones nothing, of the rows of tests/examples what stands there, of
-README.md's commands what it shows below them."""
+tiles what other programs made of them, of the broken ones nothing, by one command each, of every fifth row of tests/program
+what stands there, of README.md's commands what it shows below them. A case takes a second; tests/program has them all."""
 
-import gzip
+import itertools
 import re
 import shlex
 import sys
 from pathlib import Path
 
 TOP = Path(__file__).resolve().parents[1]
-sys.path.insert(0, str(TOP / "tests" / "examples"))
+sys.path.insert(0, str(TOP / "tests" / "program"))
 
-import rows  # noqa: E402
+import few_bytes  # noqa: E402
 
-TILES = TOP / "examples" / "tiles"
+TILES = TOP / "fixtures" / "tiles"
 FAULT = re.compile(r"layer \S+ feature \S+ at \d+: \d+ \w+\n", re.M)
 
 
@@ -36,19 +36,15 @@ def example_tiles(folder: Path) -> None:
 
 
 def broken_tiles(folder: Path) -> None:
-    for path in sorted((TILES / "broken").glob("*.mvt")):
-        for command in ("check", "show", "draw", "rewrite"):
-            case(folder, f"{path.stem}-{command}", [command], path.read_bytes(), b"")
-    for path in (TILES / "broken").glob("*.mvt.gz"):
-        tile = gzip.decompress(path.read_bytes())
-        if len(tile) < 1 << 20:
-            case(folder, path.name.removesuffix(".mvt.gz"), ["check"], tile, b"")
+    paths = sorted((TILES / "broken").glob("*.mvt"))
+    for path, command in zip(paths, itertools.cycle(["check", "show", "draw", "rewrite"])):
+        case(folder, f"{path.stem}-{command}", [command], path.read_bytes(), b"")
 
 
-def few_bytes(folder: Path) -> None:
-    for number, (words, tile, (_, output, _)) in enumerate(rows.runs()):
-        if "" not in words:  # which a file of words can't say
-            case(folder, f"row-{number}", words, rows.octets(tile), rows.encoded(output))
+def of_few_bytes(folder: Path) -> None:
+    for number, (words, tile, (_, output, _)) in enumerate(few_bytes.runs()):
+        if number % 5 == 0 and "" not in words:  # which a file of words can't say
+            case(folder, f"row-{number}", words, few_bytes.octets(tile), few_bytes.encoded(output))
 
 
 def documented(folder: Path) -> None:
@@ -65,7 +61,7 @@ def main() -> None:
     folder.mkdir(parents=True, exist_ok=True)
     example_tiles(folder)
     broken_tiles(folder)
-    few_bytes(folder)
+    of_few_bytes(folder)
     documented(folder)
 
 

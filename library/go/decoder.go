@@ -63,7 +63,7 @@ func NewDecoder() (*Decoder, error) {
 // NewDecoderWithin is the same, of a tile whose rows have at most so many bytes: else the error of a call is ErrMemory.
 func NewDecoderWithin(most uint64) (*Decoder, error) {
 	held := &feeding{}
-	if err := errorOf(C.mvt_decoder_new_within(&held.decoder, C.uint64_t(most)), nil, nil); err != nil {
+	if err := errorOf(C.mvt_decoder_new(&held.decoder, C.uint64_t(most)), nil, nil); err != nil {
 		return nil, err
 	}
 	runtime.SetFinalizer(held, (*feeding).free)

@@ -14,8 +14,8 @@ import (
 var (
 	// ErrMemory says that memory ran out, or that the bound of the rows is reached.
 	ErrMemory = errors.New("out of memory")
-	// ErrTooLarge says that the result would be larger than 67,108,864 bytes.
-	ErrTooLarge = errors.New("the result is larger than 67108864 bytes")
+	// ErrTooLarge says that the result would be larger than Limit.
+	ErrTooLarge = fmt.Errorf("the result is larger than %d bytes", Limit)
 	// ErrOutOfTurn says that a builder doesn't expect a call, such as a point before the first feature.
 	ErrOutOfTurn = errors.New("a builder's call that isn't due")
 	// ErrClosed says that a decoder is finished or closed.
@@ -28,7 +28,7 @@ type Refused struct {
 	Layer, Feature int64
 	// At is an offset in the tile, or an index in the feature's tags or the integers of its geometry, as the cause has it.
 	At uint64
-	// Cause is the cause's number, and Name its name.
+	// Cause is the cause's number, such as CauseZeroSegment, and Name its name.
 	Cause uint32
 	Name  string
 	// Explanation is the fault in plain words.

@@ -16,7 +16,6 @@
 package mvt
 
 /*
-#cgo pkg-config: mvt
 #include <mvt.h>
 #include <stdlib.h>
 */
@@ -54,7 +53,7 @@ func Extract(tile []byte, names ...string) ([]byte, error) {
 		wanted[i] = C.mvt_bytes{(*C.uint8_t)(held), C.size_t(len(name))}
 	}
 	var index C.size_t
-	status := C.mvt_extract_layers(start(tile), C.size_t(len(tile)), &wanted[0], C.size_t(len(names)), &out, &fault, &index)
+	status := C.mvt_extract(start(tile), C.size_t(len(tile)), &wanted[0], C.size_t(len(names)), &out, &fault, &index)
 	if status == C.MVT_NO_LAYER {
 		return nil, &NoLayer{names[index]}
 	}
@@ -82,40 +81,44 @@ func firstBad(names []string) int {
 // ToJSON shows a tile as JSON, in one line without a line end, as `mvt show` does. A text that many features share is
 // repeated for each.
 func ToJSON(tile []byte) (string, error) {
-	var out C.mvt_bytes
-	var fault C.mvt_fault
-	text, err := made(C.mvt_json(start(tile), C.size_t(len(tile)), &out, &fault), tile, &out, &fault)
-	return string(text), err
+	return text(tile, func(out *C.mvt_bytes, fault *C.mvt_fault) C.mvt_status {
+		return C.mvt_json(start(tile), C.size_t(len(tile)), out, fault)
+	})
 }
 
 // ToSVG draws a tile as a picture in SVG, as `mvt draw` does.
 func ToSVG(tile []byte) (string, error) {
-	var out C.mvt_bytes
-	var fault C.mvt_fault
-	text, err := made(C.mvt_svg(start(tile), C.size_t(len(tile)), &out, &fault), tile, &out, &fault)
-	return string(text), err
+	return text(tile, func(out *C.mvt_bytes, fault *C.mvt_fault) C.mvt_status {
+		return C.mvt_svg(start(tile), C.size_t(len(tile)), out, fault)
+	})
 }
 
 // Report gives what `mvt check` prints: a line with the numbers of layers and features and whether its bytes are
 // canonical, and a line for each note.
 func Report(tile []byte) (string, error) {
-	var out C.mvt_bytes
-	var fault C.mvt_fault
-	text, err := made(C.mvt_report(start(tile), C.size_t(len(tile)), &out, &fault), tile, &out, &fault)
-	return string(text), err
+	return text(tile, func(out *C.mvt_bytes, fault *C.mvt_fault) C.mvt_status {
+		return C.mvt_report(start(tile), C.size_t(len(tile)), out, fault)
+	})
 }
 
 // Lint gives what `mvt lint` prints: a line for each thing that breaks no rule but that viewers stumble over.
 func Lint(tile []byte) (string, error) {
-	var out C.mvt_bytes
-	var fault C.mvt_fault
-	text, err := made(C.mvt_lint(start(tile), C.size_t(len(tile)), &out, &fault), tile, &out, &fault)
-	return string(text), err
+	return text(tile, func(out *C.mvt_bytes, fault *C.mvt_fault) C.mvt_status {
+		return C.mvt_lint(start(tile), C.size_t(len(tile)), out, fault)
+	})
 }
 
 // Version is the version of the library.
 func Version() string {
 	return C.GoString(C.mvt_version())
+}
+
+// text is what a call makes of a tile.
+func text(tile []byte, call func(out *C.mvt_bytes, fault *C.mvt_fault) C.mvt_status) (string, error) {
+	var out C.mvt_bytes
+	var fault C.mvt_fault
+	made, err := made(call(&out, &fault), tile, &out, &fault)
+	return string(made), err
 }
 
 // made copies what a call put into out, and gives that back, or says what its status means.

@@ -87,6 +87,7 @@ func good(t *testing.T, path string, tile []byte) {
 		same(t, path+" "+command, must(t, err, text), out)
 		same(t, path+" "+command, status, 0)
 	}
+	remarked(t, path, tile)
 	out, _, _ := told(t, tile, "rewrite")
 	canonical, err := mvt.Rewrite(tile)
 	same(t, path, string(must(t, err, canonical)), out)
@@ -113,6 +114,39 @@ func good(t *testing.T, path string, tile []byte) {
 		same(t, path, string(extracted), out)
 	}
 	read.Close()
+}
+
+// remarked compares what is noted and found with what the program prints.
+func remarked(t *testing.T, path string, tile []byte) {
+	t.Helper()
+	check, _, _ := told(t, tile, "check")
+	lint, _, _ := told(t, tile, "lint")
+	survey, err := mvt.Survey(tile)
+	is := map[bool]string{true: "yes", false: "no"}[must(t, err, survey).IsCanonical]
+	first := fmt.Sprintf("ok layers %d features %d canonical %s\n", survey.Layers, survey.Features, is)
+	same(t, path, strings.HasPrefix(check, first), true)
+	same(t, path, len(survey.Notes), strings.Count(check, "\n")-1)
+	found, err := mvt.LintRows(tile)
+	same(t, path, len(must(t, err, found)), strings.Count(lint, "\n"))
+}
+
+func TestNotesAndFindings(t *testing.T) {
+	builder := mvt.NewBuilder()
+	builder.Foreign(1, []byte{0x78, 1}).Layer("a", 0).Feature(mvt.Unknown).Feature(mvt.Points).ID(7).Point(1, 1)
+	builder.Feature(mvt.Points).ID(7).Point(1, 1).Layer("b", 4096).Feature(mvt.Points).Tag("n", int64(-1<<53)).Point(40000, 1)
+	tile, err := builder.Finish()
+	survey, wrong := mvt.Survey(must(t, err, tile))
+	same(t, "counts", *must(t, wrong, survey), mvt.Summary{Layers: 3, Features: 4, IsCanonical: true, Notes: []mvt.Note{
+		{Kind: mvt.NoteForeign, Version: 1}, {Kind: mvt.NoteRepeatedId, Layer: 1, Feature: 2, Earlier: 1}}})
+	found, err := mvt.LintRows(tile)
+	same(t, "findings", must(t, err, found), []mvt.Finding{{Kind: mvt.FindingZeroExtent, Layer: 1}, {Kind: mvt.FindingNoGeometry, Layer: 1},
+		{Kind: mvt.FindingFarPoint, Layer: 2, Position: mvt.Point{X: 40000, Y: 1}}, {Kind: mvt.FindingLargeNumber, Layer: 2}})
+	same(t, "names", fmt.Sprint(mvt.NoteForeign, mvt.FindingFarPoint, mvt.NoteKind(99)), "Foreign FarPoint 99")
+	same(t, "a note's words", survey.Notes[1].Sentence(), "A feature has the id of an earlier one of its layer.")
+	same(t, "a finding's words", strings.HasPrefix(found[1].Sentence(), "A feature of unknown type has no integers."), true)
+	var fault *mvt.Refused
+	_, err = mvt.Survey([]byte{0})
+	same(t, "a fault", errors.As(err, &fault) && fault.Cause == mvt.CauseFieldNumber, true)
 }
 
 // explained says whether what is said of a fault, and its bytes, are lines of what the program explains.
@@ -153,6 +187,10 @@ func refused(t *testing.T, path string, tile []byte, err error) {
 		same(t, path, other, err)
 	}
 	_, other := mvt.Read(tile)
+	same(t, path, other, err)
+	_, other = mvt.Survey(tile)
+	same(t, path, other, err)
+	_, other = mvt.LintRows(tile)
 	same(t, path, other, err)
 	decoder, wrong := mvt.NewDecoder()
 	_, told := io.Copy(must(t, wrong, decoder), iotest.HalfReader(bytes.NewReader(tile)))

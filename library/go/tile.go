@@ -50,7 +50,7 @@ func Read(tile []byte) (*Tile, error) {
 func ReadWithin(tile []byte, most uint64) (*Tile, error) {
 	var rows C.mvt_tile
 	var fault C.mvt_fault
-	status := C.mvt_read_within(start(tile), C.size_t(len(tile)), C.uint64_t(most), &rows, &fault)
+	status := C.mvt_read(start(tile), C.size_t(len(tile)), C.uint64_t(most), &rows, &fault)
 	return adopted(status, tile, &rows, &fault)
 }
 
@@ -88,17 +88,18 @@ func (t *Tile) Close() error {
 // Write gives the canonical bytes of a tile that was read. The error may be ErrTooLarge.
 func (t *Tile) Write() ([]byte, error) {
 	defer runtime.KeepAlive(t.held)
-	return written(t.rows())
-}
-
-func written(rows *C.mvt_tile) ([]byte, error) {
 	var out C.mvt_bytes
 	var fault C.mvt_rows_fault
-	status := C.mvt_write_rows(rows, &out, &fault)
+	status := C.mvt_write(t.rows(), &out, &fault)
+	return written(status, &out, &fault)
+}
+
+// written is what a call made of rows, or why they are no tile.
+func written(status C.mvt_status, out *C.mvt_bytes, fault *C.mvt_rows_fault) ([]byte, error) {
 	if status == C.MVT_NO_TILE {
-		return nil, noTile(&fault)
+		return nil, noTile(fault)
 	}
-	return made(status, nil, &out, nil)
+	return made(status, nil, out, nil)
 }
 
 // Layers lists the layers, in order, those of other versions among them.

@@ -25,10 +25,13 @@ static void build_point(void) {
     mvt_builder_layer(&builder, mvt_text("a"), 4096);
     mvt_builder_feature(&builder, MVT_POINTS);
     mvt_builder_point(&builder, 25, 17);
-    require(mvt_builder_finish(&builder, &out) == MVT_OK && builder.held == NULL, "a point is built");
+    mvt_rows_fault fault, untold;
+    memset(&untold, 0x5a, sizeof untold), fault = untold;
+    require(mvt_builder_finish(&builder, &out, &fault) == MVT_OK && builder.held == NULL, "a point is built");
+    require(memcmp(&fault, &untold, sizeof fault) == 0, "no fault is told");
     require(out.len == sizeof known && memcmp(out.data, known, sizeof known) == 0, "the bytes of a point");
     mvt_bytes_free(&out);
-    require(mvt_builder_finish(&builder, &out) == MVT_OK && out.len == 0, "a builder that begins anew is empty");
+    require(mvt_builder_finish(&builder, &out, &fault) == MVT_OK && out.len == 0, "a builder that begins anew is empty");
 }
 
 /* The file is what each language's builder makes of values of all kinds. */
@@ -44,11 +47,12 @@ static void build_kinds(const char *path) {
     fclose(file);
     mvt_builder builder = {0};
     mvt_bytes out = {0};
+    mvt_rows_fault fault;
     mvt_builder_layer(&builder, mvt_text("a"), 4096);
     mvt_builder_feature(&builder, MVT_POINTS);
     mvt_builder_point(&builder, 25, 17);
     for (int i = 0; i < 9; ++i) mvt_builder_tag(&builder, mvt_text(keys[i]), values[i]);
-    require(mvt_builder_finish(&builder, &out) == MVT_OK, "values of all kinds are built");
+    require(mvt_builder_finish(&builder, &out, &fault) == MVT_OK, "values of all kinds are built");
     require(out.len == len && memcmp(out.data, wanted, len) == 0, "the bytes of values of all kinds");
     mvt_bytes_free(&out);
 }
@@ -62,6 +66,7 @@ static void build_all(void) {
                               mvt_any_int(-1),             mvt_any_uint(1),     mvt_any_sint(-1),      mvt_any_bool(7)};
     mvt_builder builder = {0};
     mvt_bytes out = {0};
+    mvt_rows_fault wrong;
     uint32_t key, again, value;
     mvt_builder_layer(&builder, mvt_text("town"), 512);
     mvt_builder_feature(&builder, MVT_POLYGONS);
@@ -90,11 +95,11 @@ static void build_all(void) {
     mvt_builder_integers(&builder, integers, 3);
     mvt_builder_foreign(&builder, 1, (mvt_bytes){foreign, sizeof foreign});
     mvt_builder_layer(&builder, mvt_text("empty"), 4096);
-    require(mvt_builder_finish(&builder, &out) == MVT_OK, "all kinds are built");
+    require(mvt_builder_finish(&builder, &out, &wrong) == MVT_OK, "all kinds are built");
 
     mvt_tile t;
     mvt_fault fault;
-    require(mvt_read(out.data, out.len, &t, &fault) == MVT_OK && t.layer_count == 3, "what is built is a tile");
+    require(mvt_read(out.data, out.len, UINT64_MAX, &t, &fault) == MVT_OK && t.layer_count == 3, "what is built is a tile");
     require(is_text(&t, t.layers[0].name, "town") && t.layers[0].extent == 512, "a layer's head");
     require(t.layers[1].version == 1 && t.layers[1].bytes.len == sizeof foreign, "a layer of another version");
     require(is_text(&t, t.layers[2].name, "empty") && t.layers[2].features.len == 0, "a layer without features");
@@ -112,6 +117,60 @@ static void build_all(void) {
     }
     mvt_bytes_free(&out);
     mvt_tile_free(&t);
+}
+
+/* Whole features are the same tile as their parts one by one, and parts beyond the points aren't due. */
+static void build_whole(void) {
+    static const mvt_point points[] = {{0, 0}, {8, 0}, {8, 8}, {0, 8}, {2, 2}, {2, 4}, {4, 4}, {4, 2}};
+    static const mvt_part rings[] = {{1, {0, 4}}, {0, {4, 4}}}, line = {0, {1, 3}}, dots = {0, {0, 2}};
+    static const uint32_t tags[] = {0, 1, 1, 0};
+    const uint64_t id = 7;
+    mvt_bytes wanted = {0}, out = {0};
+    mvt_rows_fault fault;
+    for (int whole = 0; whole < 2; ++whole) {
+        mvt_builder builder = {0};
+        uint32_t index;
+        mvt_builder_layer(&builder, mvt_text("a"), 4096);
+        for (uint32_t i = 0; i < 2; ++i) {
+            mvt_builder_key(&builder, mvt_text(i == 0 ? "k" : "l"), &index);
+            mvt_builder_value(&builder, mvt_any_uint(i), &index);
+        }
+        if (whole) {
+            mvt_builder_add(&builder, MVT_POLYGONS, &id, tags, 4, rings, 2, points, 8);
+            mvt_builder_add(&builder, MVT_LINES, NULL, NULL, 0, &line, 1, points, 8);
+            mvt_builder_add(&builder, MVT_POINTS, NULL, tags, 2, &dots, 1, points, 2);
+            mvt_builder_add(&builder, MVT_UNKNOWN, NULL, NULL, 0, NULL, 0, NULL, 0);
+        } else {
+            mvt_builder_feature(&builder, MVT_POLYGONS);
+            mvt_builder_id(&builder, id);
+            mvt_builder_tag_at(&builder, 0, 1);
+            mvt_builder_tag_at(&builder, 1, 0);
+            mvt_builder_ring(&builder, 1);
+            mvt_builder_points(&builder, points, 4);
+            mvt_builder_ring(&builder, 0);
+            mvt_builder_points(&builder, points + 4, 4);
+            mvt_builder_feature(&builder, MVT_LINES);
+            mvt_builder_line(&builder);
+            mvt_builder_points(&builder, points + 1, 3);
+            mvt_builder_feature(&builder, MVT_POINTS);
+            mvt_builder_tag_at(&builder, 0, 1);
+            mvt_builder_points(&builder, points, 2);
+            mvt_builder_feature(&builder, MVT_UNKNOWN);
+        }
+        require(mvt_builder_finish(&builder, whole ? &out : &wanted, &fault) == MVT_OK, "whole features are built");
+    }
+    require(out.len == wanted.len && memcmp(out.data, wanted.data, out.len) == 0, "whole features are the same tile");
+    mvt_bytes_free(&out);
+    mvt_bytes_free(&wanted);
+    const mvt_part beyond[] = {{0, {0, 9}}, {0, {9, 0}}, {0, {8, 1}}, {0, {UINT64_MAX, 2}}, {0, {1, UINT64_MAX}}};
+    for (int i = 0; i < 7; ++i) {
+        mvt_builder builder = {0};
+        if (i != 5) mvt_builder_layer(&builder, mvt_text("a"), 4096);
+        const uint32_t status = mvt_builder_add(&builder, MVT_LINES, NULL, NULL, 0, i < 5 ? &beyond[i] : &line, 1, points, 8);
+        require(status == (i == 6 ? MVT_OK : MVT_OUT_OF_TURN), "a feature that isn't due");
+        if (i == 6) require(mvt_builder_id(&builder, 7) == MVT_OUT_OF_TURN, "a feature that has ended");
+        mvt_builder_free(&builder);
+    }
 }
 
 /* Keys and values that come again are found among many, and each layer counts its own. */
@@ -165,6 +224,7 @@ static void build_out_of_turn(void) {
     for (int i = 0; i < 7; ++i) {
         mvt_builder builder = {0};
         mvt_bytes out = {0};
+        mvt_rows_fault fault;
         uint32_t index = 77, status;
         if (i >= 2) mvt_builder_layer(&builder, mvt_text("a"), 4096);
         if (i >= 4) mvt_builder_feature(&builder, i == 6 ? MVT_POLYGONS : MVT_LINES);
@@ -179,8 +239,8 @@ static void build_out_of_turn(void) {
         }
         require(status == MVT_OUT_OF_TURN && index == 77, "a call out of turn");
         require(mvt_builder_layer(&builder, mvt_text("b"), 4096) == MVT_OUT_OF_TURN, "an answer that stays");
-        require(mvt_builder_finish(&builder, &out) == MVT_OUT_OF_TURN && out.data == NULL, "nothing is built");
-        require(mvt_builder_finish(&builder, &out) == MVT_OK && builder.held == NULL, "a builder that begins anew");
+        require(mvt_builder_finish(&builder, &out, &fault) == MVT_OUT_OF_TURN && out.data == NULL, "nothing is built");
+        require(mvt_builder_finish(&builder, &out, &fault) == MVT_OK && builder.held == NULL, "a builder that begins anew");
     }
 }
 
@@ -188,9 +248,21 @@ static void build_out_of_turn(void) {
 static void build_no_tile(void) {
     mvt_builder builder = {0};
     mvt_bytes out = {0};
+    mvt_rows_fault fault;
     mvt_builder_layer(&builder, mvt_text("a"), 4096);
+    mvt_builder_layer(&builder, mvt_text("b"), 4096);
+    mvt_builder_feature(&builder, MVT_UNKNOWN);
     mvt_builder_feature(&builder, MVT_POINTS);
-    require(mvt_builder_finish(&builder, &out) == MVT_NO_TILE && out.data == NULL, "points without a point");
+    require(mvt_builder_finish(&builder, &out, &fault) == MVT_NO_TILE && out.data == NULL, "points without a point");
+    require(builder.held == NULL && fault.layer == 1 && fault.has_feature == 1 && fault.feature == 1 &&
+                fault.cause == MVT_ROWS_GEOMETRY, "where, and why");
+    mvt_builder_layer(&builder, mvt_text("a"), 4096);
+    mvt_builder_layer(&builder, mvt_text("a"), 4096);
+    require(mvt_builder_finish(&builder, &out, &fault) == MVT_NO_TILE && fault.layer == 1 && fault.has_feature == 0 &&
+                fault.feature == 0 && fault.cause == MVT_ROWS_REPEATED_NAME, "a layer's fault");
+    mvt_builder_layer(&builder, mvt_text("a"), 4096);
+    mvt_builder_layer(&builder, mvt_text("a"), 4096);
+    require(mvt_builder_finish(&builder, &out, NULL) == MVT_NO_TILE && out.data == NULL, "a fault that nobody asks for");
 }
 
 /* What mvt_write looks at: an empty span as any other, and keys and values that no tag names. */
@@ -218,7 +290,7 @@ static void write_what_nothing_names(void) {
         case 7: tile.values = &bad, layer.values.len = 0; break;             /* a value of no layer */
         default: break;
         }
-        require(mvt_write(&tile, &out) == wanted, "what is looked at, and what isn't");
+        require(mvt_write(&tile, &out, NULL) == wanted, "what is looked at, and what isn't");
         require(wanted != MVT_OK || out.len == 19, "what no tag names isn't written");
         mvt_bytes_free(&out);
     }
@@ -240,7 +312,7 @@ static void write_overlaps(void) {
         mvt_rows_fault fault = {.cause = 99};
         mvt_bytes out = {0};
         const uint32_t wanted = count == 2 ? MVT_OK : count < FEATURES ? MVT_TOO_LARGE : MVT_NO_MEMORY;
-        require(mvt_write(&tile, &out) == wanted, "what spans that overlap are written as");
+        require(mvt_write(&tile, &out, NULL) == wanted, "what spans that overlap are written as");
         require(mvt_judge_rows(&tile, &fault) == (count < FEATURES ? MVT_OK : MVT_NO_MEMORY), "and are judged as");
         require(fault.cause == 99 && (out.data == NULL) == (count > 2), "nothing is written but bytes");
         mvt_bytes_free(&out);
@@ -295,10 +367,10 @@ static void judge_rows(void) {
         mvt_bytes out = {0};
         const uint32_t wanted = cause == 0 ? MVT_OK : MVT_NO_TILE;
         require(mvt_judge_rows(&tile, &fault) == wanted, "rows are judged");
-        require(mvt_write_rows(&tile, &out, &told) == wanted, "rows are written as they are judged");
+        require(mvt_write(&tile, &out, &told) == wanted, "rows are written as they are judged");
         require(memcmp(&told, &fault, sizeof told) == 0, "writing tells what judging tells");
         mvt_bytes_free(&out);
-        require(mvt_write(&tile, &out) == wanted, "the same without a fault");
+        require(mvt_write(&tile, &out, NULL) == wanted, "the same without a fault");
         require(fault.cause == (cause == 0 ? 99 : cause), "the cause of rows that are no tile");
         require(cause == 0 || (fault.layer == layer && fault.has_feature == (feature >= 0)), "the layer of such rows");
         require(cause == 0 || fault.feature == (feature < 0 ? 0 : (uint64_t)feature), "the feature of such rows");
@@ -319,7 +391,7 @@ static void judge_in_order(void) {
     for (uint64_t step = 0; step < 3; ++step) {
         mvt_rows_fault fault;
         mvt_bytes out = {0};
-        require(mvt_write_rows(&tile, &out, &fault) == MVT_NO_TILE && out.data == NULL, "rows that are broken twice");
+        require(mvt_write(&tile, &out, &fault) == MVT_NO_TILE && out.data == NULL, "rows that are broken twice");
         require(fault.cause == causes[step] && fault.layer == (step > 0), "what is wrong first");
         if (step == 0) layers[0].features.len = 0;
         else layers[1].name.start = 1;
@@ -371,6 +443,7 @@ int main(int argc, char **argv) {
     build_point();
     build_kinds(argv[1]);
     build_all();
+    build_whole();
     build_many();
     build_clashes();
     build_out_of_turn();

@@ -150,11 +150,11 @@ static uint32_t write_rows(const mvt_tile *rows) {
     mvt_bytes out = {0}, again = {0};
     mvt_fault fault;
     mvt_tile read = {0};
-    const uint32_t status = mvt_write(rows, &out);
+    const uint32_t status = mvt_write(rows, &out, NULL);
     require(status == MVT_OK || status == MVT_NO_TILE, "the status of mvt_write");
     require(status == MVT_OK || (out.data == NULL && out.len == 0), "an output that isn't due is touched");
     if (status != MVT_OK) return status;
-    require(mvt_read(out.data, out.len, &read, &fault) == MVT_OK && same_tiles(rows, &read), "rows that read back");
+    require(mvt_read(out.data, out.len, UINT64_MAX, &read, &fault) == MVT_OK && same_tiles(rows, &read), "rows that read back");
     require(mvt_rewrite(out.data, out.len, &again, &fault) == MVT_OK, "what was written is a tile");
     require(again.len == out.len && (out.len == 0 || memcmp(again.data, out.data, out.len) == 0), "canonical bytes");
     mvt_bytes_free(&out);
@@ -216,7 +216,7 @@ static void decode(const uint8_t *bytes, size_t len, uint32_t wanted, const mvt_
     mvt_decoder decoder = {0};
     mvt_fault fault = {0};
     mvt_tile read = {0};
-    require(mvt_decoder_new(&decoder) == MVT_OK, "a decoder");
+    require(mvt_decoder_new(&decoder, UINT64_MAX) == MVT_OK, "a decoder");
     uint32_t status = MVT_OK;
     for (size_t at = 0; at < len && status == MVT_OK;) {
         const size_t piece = 1 + any(len - at < 1000 ? len - at : 1000);
@@ -235,7 +235,7 @@ static void decode(const uint8_t *bytes, size_t len, uint32_t wanted, const mvt_
     }
     require(mvt_decoder_feed(&decoder, bytes, len, &fault) == MVT_NO_DECODER, "a decoder that is finished");
     require(mvt_decoder_finish(&decoder, &read, &fault) == MVT_NO_DECODER, "a decoder that is finished");
-    require(mvt_decoder_new(&decoder) == MVT_OK && mvt_decoder_feed(&decoder, bytes, len / 2, &fault) <= 1, "half a tile");
+    require(mvt_decoder_new(&decoder, UINT64_MAX) == MVT_OK && mvt_decoder_feed(&decoder, bytes, len / 2, &fault) <= 1, "half a tile");
     mvt_decoder_free(&decoder);
     mvt_decoder_free(&decoder);
 }
@@ -252,16 +252,16 @@ static void read_within(const uint8_t *bytes, size_t len, const mvt_tile *rows) 
     mvt_tile read = {0};
     mvt_fault fault = {0};
     mvt_decoder decoder = {0};
-    require(mvt_read_within(bytes, len, size, &read, &fault) == MVT_OK && same_tiles(rows, &read), "rows of just the most");
+    require(mvt_read(bytes, len, size, &read, &fault) == MVT_OK && same_tiles(rows, &read), "rows of just the most");
     mvt_tile_free(&read);
-    require(mvt_decoder_new_within(&decoder, size) == MVT_OK, "a decoder of rows of just the most");
+    require(mvt_decoder_new(&decoder, size) == MVT_OK, "a decoder of rows of just the most");
     require(mvt_decoder_feed(&decoder, bytes, len, &fault) == MVT_OK, "just the most from a decoder");
     require(mvt_decoder_finish(&decoder, &read, &fault) == MVT_OK && same_tiles(rows, &read), "just the most in the end");
     mvt_tile_free(&read);
     require(mvt_read_layer(bytes, len, mvt_text("no layer's name"), &read, &fault) == MVT_NO_LAYER, "a layer of no name");
     if (size == 0) return;
-    require(mvt_read_within(bytes, len, size - 1, &read, &fault) == MVT_NO_MEMORY && read.layers == NULL, "beyond the most");
-    require(mvt_decoder_new_within(&decoder, size - 1) == MVT_OK, "a decoder of fewer rows");
+    require(mvt_read(bytes, len, size - 1, &read, &fault) == MVT_NO_MEMORY && read.layers == NULL, "beyond the most");
+    require(mvt_decoder_new(&decoder, size - 1) == MVT_OK, "a decoder of fewer rows");
     require(mvt_decoder_feed(&decoder, bytes, len, &fault) == MVT_NO_MEMORY, "beyond the most from a decoder");
     mvt_decoder_free(&decoder);
 }
@@ -285,19 +285,20 @@ static void call(const char *path) {
     if (shown == MVT_OK) sum += sum_of(&out);
     require(mvt_lint(bytes, len, &out, &fault) == shown, "a tile is linted where it is shown");
     if (shown == MVT_OK) sum += sum_of(&out);
-    const uint32_t read = mvt_read(bytes, len, &rows, &fault);
+    const uint32_t read = mvt_read(bytes, len, UINT64_MAX, &rows, &fault);
     decode(bytes, len, read, &rows, &fault);
     const mvt_bytes names[] = {{(const uint8_t *)"water", 5}, {(const uint8_t *)"\xff", 1}};
-    const uint32_t extracted = mvt_extract(bytes, len, names, 1, &out, &fault);
+    const uint32_t extracted = mvt_extract(bytes, len, names, 1, &out, &fault, NULL);
     if (extracted == MVT_OK) sum += sum_of(&out);
-    require(mvt_extract(bytes, len, NULL, 0, &out, &fault) == shown && out.len == 0, "no layers are named");
+    require(mvt_extract(bytes, len, NULL, 0, &out, &fault, NULL) == shown && out.len == 0, "no layers are named");
     mvt_bytes_free(&out);
-    require(mvt_extract(bytes, len, names, 2, &out, &fault) == MVT_BAD_NAME, "a name that isn't UTF-8");
+    require(mvt_extract(bytes, len, names, 2, &out, &fault, NULL) == MVT_BAD_NAME, "a name that isn't UTF-8");
     const mvt_bytes missed[] = {names[0], {(const uint8_t *)"no such layer", 13}};
     size_t missing = 7;
-    const uint32_t without = mvt_extract_layers(bytes, len, missed, 2, &out, &fault, &missing);
+    const uint32_t without = mvt_extract(bytes, len, missed, 2, &out, &fault, &missing);
     require(without == (shown == MVT_OK ? MVT_NO_LAYER : shown), "a layer that isn't there");
     require(missing == (shown != MVT_OK ? 7 : extracted == MVT_NO_LAYER ? 0 : 1), "the first name that no layer has");
+    require(mvt_extract(bytes, len, missed, 2, &out, &fault, NULL) == without, "a missing layer that nobody asks for");
     require(out.data == NULL && out.len == 0, "an output that isn't due is touched");
     if (read == MVT_OK) {
         sum += walk(&rows);
@@ -326,16 +327,16 @@ static void write_point(void) {
     mvt_tile tile = {.layers = &layer, .layer_count = 1, .features = &feature, .feature_count = 1, .parts = &part,
                      .part_count = 1, .points = &point, .point_count = 1, .texts = (const uint8_t *)"a", .text_len = 1};
     mvt_bytes out = {0};
-    require(mvt_write(&tile, &out) == MVT_OK && out.len == sizeof known, "a point made by hand");
+    require(mvt_write(&tile, &out, NULL) == MVT_OK && out.len == sizeof known, "a point made by hand");
     require(memcmp(out.data, known, sizeof known) == 0, "the bytes of a point");
     mvt_bytes_free(&out);
     point.x = INT32_MIN;
-    require(mvt_write(&tile, &out) == MVT_NO_TILE && out.data == NULL, "a point out of range");
+    require(mvt_write(&tile, &out, NULL) == MVT_NO_TILE && out.data == NULL, "a point out of range");
     point.x = 25;
     tile.point_count = 0;
-    require(mvt_write(&tile, &out) == MVT_NO_TILE && out.data == NULL, "a point that isn't there");
+    require(mvt_write(&tile, &out, NULL) == MVT_NO_TILE && out.data == NULL, "a point that isn't there");
     const mvt_tile nothing = {0};
-    require(mvt_write(&nothing, &out) == MVT_OK && out.len == 0, "no rows are the empty tile");
+    require(mvt_write(&nothing, &out, NULL) == MVT_OK && out.len == 0, "no rows are the empty tile");
 }
 
 /* A pointer beside a length or a count of 0 may be NULL. */
@@ -344,9 +345,9 @@ static void take_nothing(void) {
     mvt_bytes out = {0};
     mvt_fault fault;
     require(mvt_judge(NULL, 0, &fault) == MVT_OK, "no bytes are a tile");
-    require(mvt_read(NULL, 0, &rows, &fault) == MVT_OK && rows.layer_count == 0, "no bytes have no rows");
+    require(mvt_read(NULL, 0, UINT64_MAX, &rows, &fault) == MVT_OK && rows.layer_count == 0, "no bytes have no rows");
     require(mvt_rewrite(NULL, 0, &out, &fault) == MVT_OK && out.len == 0, "no bytes are canonical");
-    require(mvt_extract(NULL, 0, NULL, 0, &out, &fault) == MVT_OK && out.len == 0, "no layers of no bytes");
+    require(mvt_extract(NULL, 0, NULL, 0, &out, &fault, NULL) == MVT_OK && out.len == 0, "no layers of no bytes");
     mvt_tile_free(&rows);
     mvt_bytes_free(&out);
 }

@@ -21,7 +21,7 @@ PROGRAMS = {
     "make.c": (
         "From C",
         BUILD,
-        "#include <stdio.h>\nint main(void) { mvt_bytes t; if (make(&t) != MVT_OK) return 1;"
+        "#include <stdio.h>\nint main(void) { mvt_bytes t; mvt_rows_fault f; if (make(&t, &f) != MVT_OK) return 1;"
         " fwrite(t.data, 1, t.len, stdout); mvt_bytes_free(&t); return 0; }",
     ),
     "list.cpp": (

@@ -1,41 +1,15 @@
 /* A decoder that failed behind the points of a feature keeps no memory for them: it has no more than one that failed
- * before the first of them, whatever it failed for, while the feature has no row. Link it with --wrap for malloc,
- * realloc and free. */
+ * before the first of them, whatever it failed for, while the feature has no row. It is linked with tests/allocator. */
+#include "allocator.h"
 #include "mvt.h"
 
-#include <malloc.h>
 #include <stdio.h>
 #include <stdlib.h>
 #include <string.h>
 
 enum { STEPS = 50000, LEN = 28 + 2 * STEPS, SLACK = 1024 };
 
-void *__real_malloc(size_t size);
-void *__real_realloc(void *block, size_t size);
-void __real_free(void *block);
-
-static unsigned long count, refused; /* allocations so far, and the one that is refused, from 1 */
-static size_t live;                  /* bytes of the blocks that weren't given back */
-
-static int refuses(void) { return ++count == refused; }
-
-void *__wrap_malloc(size_t size) {
-    void *block = refuses() ? NULL : __real_malloc(size);
-    live += malloc_usable_size(block);
-    return block;
-}
-
-void *__wrap_realloc(void *old, size_t size) {
-    const size_t before = malloc_usable_size(old);
-    void *block = refuses() ? NULL : __real_realloc(old, size);
-    if (block != NULL) live += malloc_usable_size(block) - before;
-    return block;
-}
-
-void __wrap_free(void *block) {
-    live -= malloc_usable_size(block);
-    __real_free(block);
-}
+static unsigned long refused; /* the allocation that is refused, from 1 */
 
 static void require(int holds, const char *what) {
     if (holds) return;
@@ -72,38 +46,42 @@ static size_t line(uint8_t *tile, size_t *len) {
     return (size_t)(at - tile);
 }
 
-/* The bytes that a decoder has when it was fed, which has to answer this. */
-static size_t held(const uint8_t *tile, size_t len, uint32_t wanted) {
+/* The bytes that a decoder has when it was fed, which has to answer this, or, where the allocation `refused` comes, that it
+ * is out of memory. */
+static long held(const uint8_t *tile, size_t len, uint32_t wanted, int *came) {
     mvt_decoder decoder = {0};
     mvt_fault fault = {0};
-    count = 0, live = 0;
-    uint32_t status = mvt_decoder_new(&decoder);
+    allocator_bytes();
+    allocator_refuse_after((long)refused - 1);
+    uint32_t status = mvt_decoder_new(&decoder, UINT64_MAX);
     if (status == MVT_OK) status = mvt_decoder_feed(&decoder, tile, len, &fault);
-    const size_t bytes = live;
-    require(status == wanted || (status == MVT_OK && count < refused), "the status");
+    *came = allocator_refuse_none();
+    const long bytes = allocator_bytes();
+    require(status == (*came ? MVT_NO_MEMORY : wanted), "the status");
     mvt_decoder_free(&decoder);
-    require(live == 0, "a block is left");
+    require(bytes + allocator_bytes() == 0, "a block is left");
     return bytes;
 }
 
 int main(void) {
     static uint8_t tile[LEN];
     size_t len;
+    int came;
     const size_t steps = line(tile, &len);
     tile[steps] = tile[steps + 1] = 0;
-    const size_t least = held(tile, len, MVT_REFUSED);
+    const long least = held(tile, len, MVT_REFUSED, &came);
     memset(tile + steps, 2, 2);
     tile[len - 1] = tile[len - 2] = 0;
-    require(held(tile, len, MVT_REFUSED) <= least + SLACK, "behind a fault points are kept");
+    require(held(tile, len, MVT_REFUSED, &came) <= least + SLACK, "behind a fault points are kept");
     memset(tile + len - 2, 2, 2);
     /* The layer's row and its name come behind the feature's row, which has the points then. */
     int kept = 0;
     do {
         ++refused;
-        const size_t bytes = held(tile, len, MVT_NO_MEMORY);
-        if (count >= refused && bytes > least + SLACK) ++kept;
+        const long bytes = held(tile, len, MVT_OK, &came);
+        if (came && bytes > least + SLACK) ++kept;
         require(kept <= 2, "behind a refusal points are kept");
-    } while (count >= refused);
-    printf("%lu runs, at most %zu bytes\n", refused, least);
+    } while (came);
+    printf("%lu runs, at most %ld bytes\n", refused, least);
     return 0;
 }

@@ -4,7 +4,7 @@ import subprocess
 import sys
 from pathlib import Path
 
-TILES = Path(__file__).resolve().parents[2] / "examples" / "tiles"
+TILES = Path(__file__).resolve().parents[2] / "fixtures" / "tiles"
 
 
 def framed(tiles):

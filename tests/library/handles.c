@@ -22,7 +22,7 @@ static const uint8_t BROKEN[] = {0x1A, 0x03, 0x0A, 0x01, 0x61};
 static mvt_decoder decoder_fed(const uint8_t *tile, size_t len, mvt_status wanted) {
     mvt_decoder decoder = {0};
     mvt_fault fault;
-    require(mvt_decoder_new(&decoder) == MVT_OK, "a decoder is made");
+    require(mvt_decoder_new(&decoder, UINT64_MAX) == MVT_OK, "a decoder is made");
     mvt_status status = MVT_OK;
     for (size_t at = 0; at < len && status == MVT_OK; ++at) status = mvt_decoder_feed(&decoder, tile + at, 1, &fault);
     require(status == wanted, "what a decoder says of its bytes");
@@ -66,6 +66,7 @@ static void builders(int forgets) {
     mvt_builder builder = {0};
     mvt_tile rows;
     mvt_bytes out;
+    mvt_rows_fault fault;
     mvt_builder_free(&builder);
     builder = builder_begun();
     mvt_builder_free(&builder);
@@ -77,12 +78,12 @@ static void builders(int forgets) {
     mvt_builder_free(&builder);
     builder = builder_begun();
     require(mvt_builder_rows(&builder, &rows) == MVT_OK, "rows are lent");
-    require(mvt_builder_finish(&builder, &out) == MVT_OK && out.len != 0, "a tile is built");
+    require(mvt_builder_finish(&builder, &out, &fault) == MVT_OK && out.len != 0, "a tile is built");
     mvt_bytes_free(&out);
     builder = builder_begun();
     mvt_builder_feature(&builder, MVT_LINES);
     mvt_builder_line(&builder);
-    require(mvt_builder_finish(&builder, &out) == MVT_NO_TILE, "a line without points is no tile");
+    require(mvt_builder_finish(&builder, &out, &fault) == MVT_NO_TILE, "a line without points is no tile");
     mvt_builder_free(&builder);
     builder = builder_begun();
     if (forgets) memset(&builder, 0, sizeof builder);
@@ -94,11 +95,11 @@ static void builders(int forgets) {
 static void tiles(int forgets) {
     mvt_tile tile;
     mvt_fault fault;
-    require(mvt_read(NULL, 0, &tile, &fault) == MVT_OK, "no bytes are a tile");
+    require(mvt_read(NULL, 0, UINT64_MAX, &tile, &fault) == MVT_OK, "no bytes are a tile");
     mvt_tile_free(&tile);
     require(mvt_read_layer(TILE, sizeof TILE, mvt_text("a"), &tile, &fault) == MVT_OK, "one layer");
     mvt_tile_free(&tile);
-    require(mvt_read(TILE, sizeof TILE, &tile, &fault) == MVT_OK, "a tile");
+    require(mvt_read(TILE, sizeof TILE, UINT64_MAX, &tile, &fault) == MVT_OK, "a tile");
     if (forgets) memset(&tile, 0, sizeof tile);
     mvt_tile_free(&tile);
     require(tile.layer_count == 0 && tile.layers == NULL, "a freed tile is empty");
@@ -115,7 +116,7 @@ static void bytes(int forgets) {
         mvt_bytes_free(&out);
         require(calls[at](BROKEN, sizeof BROKEN, &out, &fault) == MVT_REFUSED, "no bytes are made");
     }
-    require(mvt_extract(TILE, sizeof TILE, &names, 1, &out, &fault) == MVT_OK, "a layer is extracted");
+    require(mvt_extract(TILE, sizeof TILE, &names, 1, &out, &fault, NULL) == MVT_OK, "a layer is extracted");
     if (forgets) memset(&out, 0, sizeof out);
     mvt_bytes_free(&out);
     require(out.len == 0 && out.data == NULL, "freed bytes are none");

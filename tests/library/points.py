@@ -11,8 +11,8 @@ from pathlib import Path
 import mvt
 
 ROOT = Path(__file__).resolve().parents[2]
-EXAMPLE = ROOT / "library" / "examples" / "points.py"
-TILES = ROOT / "examples" / "tiles"
+EXAMPLE = ROOT / "examples" / "python" / "points.py"
+TILES = ROOT / "fixtures" / "tiles"
 
 
 def made(rows, *words):

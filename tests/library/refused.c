@@ -1,44 +1,13 @@
 /* Each call on each tile that is named, once for each of its allocations, that one refused: it has to say that it is
- * out of memory, to touch nothing, and to leave no block behind. Link it with --wrap for malloc, calloc, realloc and
- * free. */
+ * out of memory, to touch nothing, and to leave no block behind. It is linked with tests/allocator. */
+#include "allocator.h"
 #include "mvt.h"
 
 #include <stdio.h>
 #include <stdlib.h>
 #include <string.h>
 
-void *__real_malloc(size_t size);
-void *__real_calloc(size_t count, size_t size);
-void *__real_realloc(void *block, size_t size);
-void __real_free(void *block);
-
-static unsigned long count, refused; /* allocations so far, and the one that is refused, from 1 */
-static long live;                    /* blocks that weren't given back */
-
-static int refuses(void) { return ++count == refused; }
-
-void *__wrap_malloc(size_t size) {
-    void *block = refuses() ? NULL : __real_malloc(size);
-    live += block != NULL;
-    return block;
-}
-
-void *__wrap_calloc(size_t items, size_t size) {
-    void *block = refuses() ? NULL : __real_calloc(items, size);
-    live += block != NULL;
-    return block;
-}
-
-void *__wrap_realloc(void *old, size_t size) {
-    void *block = refuses() ? NULL : __real_realloc(old, size);
-    live += old == NULL && block != NULL;
-    return block;
-}
-
-void __wrap_free(void *block) {
-    live -= block != NULL;
-    __real_free(block);
-}
+static unsigned long refused; /* the allocation that is refused, from 1 */
 
 static void require(int holds, const char *what, const char *call) {
     if (holds) return;
@@ -46,10 +15,18 @@ static void require(int holds, const char *what, const char *call) {
     exit(1);
 }
 
+/* From here on the allocation `number` is refused. */
+static void begin(unsigned long number) {
+    refused = number;
+    allocator_refuse_after((long)number - 1);
+}
+
 /* What a call hands out: bytes or rows. */
 typedef union {
     mvt_bytes bytes;
     mvt_tile tile;
+    mvt_summary summary;
+    mvt_findings findings;
 } output;
 
 typedef struct {
@@ -63,34 +40,36 @@ static uint32_t json(const uint8_t *b, size_t n, output *o, mvt_fault *f) { retu
 static uint32_t svg(const uint8_t *b, size_t n, output *o, mvt_fault *f) { return mvt_svg(b, n, &o->bytes, f); }
 static uint32_t lint(const uint8_t *b, size_t n, output *o, mvt_fault *f) { return mvt_lint(b, n, &o->bytes, f); }
 static uint32_t report(const uint8_t *b, size_t n, output *o, mvt_fault *f) { return mvt_report(b, n, &o->bytes, f); }
+static uint32_t survey(const uint8_t *b, size_t n, output *o, mvt_fault *f) { return mvt_survey(b, n, &o->summary, f); }
+static uint32_t findings(const uint8_t *b, size_t n, output *o, mvt_fault *f) { return mvt_lint_rows(b, n, &o->findings, f); }
 static uint32_t judge(const uint8_t *b, size_t n, output *o, mvt_fault *f) {
     const uint32_t status = mvt_judge(b, n, f);
     if (status == MVT_OK) memset(o, 0, sizeof *o);
     return status;
 }
-static uint32_t rows(const uint8_t *b, size_t n, output *o, mvt_fault *f) { return mvt_read(b, n, &o->tile, f); }
+static uint32_t rows(const uint8_t *b, size_t n, output *o, mvt_fault *f) { return mvt_read(b, n, UINT64_MAX, &o->tile, f); }
 static uint32_t layer(const uint8_t *b, size_t n, output *o, mvt_fault *f) {
     return mvt_read_layer(b, n, mvt_text("water"), &o->tile, f);
 }
 static uint32_t extract(const uint8_t *b, size_t n, output *o, mvt_fault *f) {
     const mvt_bytes names[] = {{(const uint8_t *)"water", 5}, {(const uint8_t *)"places", 6}};
-    return mvt_extract(b, n, names, 2, &o->bytes, f);
+    return mvt_extract(b, n, names, 2, &o->bytes, f, NULL);
 }
 /* Rows are read beside the count, and then written. */
 static uint32_t written(const uint8_t *b, size_t n, output *o, mvt_fault *f) {
     mvt_tile tile;
-    const unsigned long number = refused;
-    refused = 0;
-    const uint32_t read = mvt_read(b, n, &tile, f);
-    refused = number, count = 0;
+    allocator_refuse_none();
+    const uint32_t read = mvt_read(b, n, UINT64_MAX, &tile, f);
+    begin(refused);
     if (read != MVT_OK) return read;
-    const uint32_t status = mvt_write(&tile, &o->bytes);
+    const uint32_t status = mvt_write(&tile, &o->bytes, NULL);
     mvt_tile_free(&tile);
     return status;
 }
 /* A tile is built whose texts are parts of the bytes. */
 static uint32_t built(const uint8_t *b, size_t n, output *o, mvt_fault *f) {
     mvt_builder builder = {0};
+    mvt_rows_fault fault;
     (void)f;
     for (uint32_t layer = 0; layer < 2; ++layer) {
         mvt_builder_layer(&builder, mvt_text(layer == 0 ? "a" : "b"), 4096);
@@ -101,18 +80,24 @@ static uint32_t built(const uint8_t *b, size_t n, output *o, mvt_fault *f) {
             mvt_builder_line(&builder);
             mvt_builder_point(&builder, 0, 0);
             mvt_builder_point(&builder, 1, (int32_t)i);
+            const mvt_point points[] = {{0, 0}, {1, 1}, {2, (int32_t)i}};
+            const mvt_part parts[] = {{0, {0, 2}}, {0, {1, 2}}};
+            mvt_builder_add(&builder, MVT_LINES, NULL, (const uint32_t[]){0, 0}, 2, parts, 2, points, 3);
         }
     }
-    return mvt_builder_finish(&builder, &o->bytes);
+    return mvt_builder_finish(&builder, &o->bytes, &fault);
 }
 static void free_bytes(output *o) { mvt_bytes_free(&o->bytes); }
 static void free_tile(output *o) { mvt_tile_free(&o->tile); }
+static void free_summary(output *o) { mvt_summary_free(&o->summary); }
+static void free_findings(output *o) { mvt_findings_free(&o->findings); }
 
 static const task TASKS[] = {
     {"mvt_rewrite", rewrite, free_bytes}, {"mvt_json", json, free_bytes}, {"mvt_svg", svg, free_bytes},
     {"mvt_extract", extract, free_bytes}, {"mvt_read", rows, free_tile},
     {"mvt_read_layer", layer, free_tile},
     {"mvt_report", report, free_bytes},   {"mvt_lint", lint, free_bytes},
+    {"mvt_survey", survey, free_summary}, {"mvt_lint_rows", findings, free_findings},
     {"mvt_judge", judge, free_bytes},
     {"mvt_write", written, free_bytes},      {"mvt_builder_finish", built, free_bytes},
 };
@@ -124,9 +109,10 @@ static int refuse(const task *of, const uint8_t *bytes, size_t len, unsigned lon
     memset(&untouched, 0x5a, sizeof untouched);
     memset(&told_nothing, 0x5a, sizeof told_nothing);
     out = untouched, fault = told_nothing;
-    count = 0, refused = number, live = 0;
+    allocator_blocks();
+    begin(number);
     const uint32_t status = of->call(bytes, len, &out, &fault);
-    const int came = count >= number;
+    const int came = allocator_refuse_none();
     require((status == MVT_NO_MEMORY) == came, "the wrong status", of->name);
     if (status == MVT_OK) {
         of->give_back(&out);
@@ -134,7 +120,7 @@ static int refuse(const task *of, const uint8_t *bytes, size_t len, unsigned lon
         require(memcmp(&out, &untouched, sizeof out) == 0, "an output is touched", of->name);
     }
     if (status != MVT_REFUSED) require(memcmp(&fault, &told_nothing, sizeof fault) == 0, "a fault is told", of->name);
-    require(live == 0, "a block is left", of->name);
+    require(allocator_blocks() == 0, "a block is left", of->name);
     return came;
 }
 
@@ -161,15 +147,16 @@ static unsigned long refuse_values(void) {
     for (unsigned long number = 1;; ++number) {
         mvt_tile tile;
         mvt_fault fault;
-        count = 0, refused = number, live = 0;
-        const uint32_t status = mvt_read(bytes, sizeof bytes, &tile, &fault);
-        const int came = count >= number;
+        allocator_blocks();
+        begin(number);
+        const uint32_t status = mvt_read(bytes, sizeof bytes, UINT64_MAX, &tile, &fault);
+        const int came = allocator_refuse_none();
         require(status == MVT_OK || (came && status == MVT_NO_MEMORY), "the wrong status", "mvt_read of version 3");
         if (status == MVT_OK) {
             require(are_bytes_alone(&tile, bytes + 2, sizeof bytes - 2), "other rows", "mvt_read of version 3");
             mvt_tile_free(&tile);
         }
-        require(live == 0, "a block is left", "mvt_read of version 3");
+        require(allocator_blocks() == 0, "a block is left", "mvt_read of version 3");
         if (!came) return number;
     }
 }
@@ -188,7 +175,6 @@ int main(int argc, char **argv) {
             runs += number;
         }
     }
-    refused = 0;
     printf("%lu runs\n", runs);
     return 0;
 }

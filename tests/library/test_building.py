@@ -11,9 +11,10 @@ class Building(unittest.TestCase):
         builder = mvt.Builder()
         builder.layer("a").feature("points").point(25, 17)
         known = bytes.fromhex("1A1178020A0161120718012203093222288020")
-        self.assertEqual(builder.finish(), known)
         self.assertEqual(mvt.write(builder.rows()), known)
-        self.assertEqual(mvt.Builder().finish(), b"")
+        self.assertEqual(builder.finish(), known)
+        self.assertEqual((builder.finish(), mvt.Builder().finish()), (b"", b""))
+        self.assertEqual(builder.layer("a").feature("points").point(25, 17).finish(), known)
 
     def test_each_geometry(self):
         square, hole = [(0, 0), (8, 0), (8, 8), (0, 8)], [(2, 2), (2, 4), (4, 4), (4, 2)]
@@ -63,8 +64,8 @@ class Building(unittest.TestCase):
         builder = mvt.Builder().layer("")
         builder.feature("points").tag("", "").point(1, 1)
         tile = mvt.Tile([mvt.Layer("", 4096, [mvt.Feature(None, {"": ""}, "points", [(1, 1)])])])
-        self.assertEqual(mvt.read(builder.finish()), tile)
         self.assertEqual((len(builder.rows().layers), mvt.read(mvt.write(tile))), (1, tile))
+        self.assertEqual(mvt.read(builder.finish()), tile)
         with self.assertRaisesRegex(mvt.NoTile, "layer 0: the layer's bytes"):
             mvt.Builder().foreign(1, b"").finish()
 
@@ -141,6 +142,15 @@ class Building(unittest.TestCase):
             mvt.Builder().layer("a").layer("a").finish()
         self.assertEqual((caught.exception.layer, caught.exception.feature, caught.exception.cause), (1, None, 19))
         self.assertEqual(str(caught.exception), "layer 1: an earlier layer has the layer's name")
+
+    def test_a_builder_begins_anew_after_what_is_no_tile(self):
+        builder = mvt.Builder().layer("a").feature("unknown")
+        with self.assertRaises(mvt.NoTile) as caught:
+            builder.feature("lines").line([(1, 1)]).finish()
+        self.assertEqual((caught.exception.layer, caught.exception.feature, caught.exception.cause), (0, 1, 17))
+        with self.assertRaisesRegex(mvt.MvtError, "begin a layer first"):
+            builder.feature("points")
+        self.assertEqual(builder.finish(), b"")
 
 
 if __name__ == "__main__":

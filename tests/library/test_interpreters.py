@@ -11,7 +11,7 @@ try:
 except ImportError:
     interpreters = None
 
-TILES = Path(__file__).resolve().parents[2] / "examples" / "tiles"
+TILES = Path(__file__).resolve().parents[2] / "fixtures" / "tiles"
 TILE = (TILES / "gdal.mvt").read_bytes()
 CANONICAL = (TILES / "gdal.canonical.mvt").read_bytes()
 BROKEN = (TILES / "broken" / "16-RepeatedKey.mvt").read_bytes()

@@ -10,7 +10,7 @@ from pathlib import Path
 
 import mvt
 
-LIBRARY = Path(__file__).resolve().parents[2] / "library"
+LIBRARY = Path(__file__).resolve().parents[2] / "library" / "c"
 ROWS = {
     "span": mvt.Span,
     "layer": mvt.LayerRow,

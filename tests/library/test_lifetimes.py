@@ -10,7 +10,7 @@ from pathlib import Path
 
 import mvt
 
-TILES = Path(__file__).resolve().parents[2] / "examples" / "tiles"
+TILES = Path(__file__).resolve().parents[2] / "fixtures" / "tiles"
 TILE = (TILES / "gdal.mvt").read_bytes()
 
 

@@ -1,5 +1,6 @@
 """What the Python module keeps and gives back: many calls leave the process as large as before, and so does each allocation
-that is refused: test_memory.py REFUSING.SO, which is loaded before the C library."""
+that is refused: test_memory.py ALLOCATOR.SO (tests/allocator), which is loaded before the C
+library."""
 
 import ctypes
 import gc
@@ -8,9 +9,9 @@ import unittest
 from pathlib import Path
 
 import mvt
-from mvt._mvt import looked_at
+from mvt._mvt import lint_rows, looked_at, survey_rows
 
-TILES = Path(__file__).resolve().parents[2] / "examples" / "tiles"
+TILES = Path(__file__).resolve().parents[2] / "fixtures" / "tiles"
 TILE = (TILES / "gdal.mvt").read_bytes()
 BROKEN = (TILES / "broken" / "20-ZeroSegment.mvt").read_bytes()
 # A feature of unknown type without integers, which viewers stumble over, and a layer without features, which is noted.
@@ -62,6 +63,10 @@ GOOD = (
     lambda: mvt.write(WHOLE),
     lambda: mvt.write(ROWS),
     lambda: mvt.report(TILE),
+    lambda: mvt.survey(FOUND),
+    lambda: survey_rows(BROKEN),
+    lambda: lint_rows(BROKEN),
+    lambda: lint_rows(FOUND),
     lambda: looked_at(TILE),
     lambda: looked_at(FOUND),
     lambda: looked_at(BROKEN),
@@ -135,19 +140,21 @@ class Refused(unittest.TestCase):
         """The call, once for each allocation that is refused. Answers how many were."""
         count = 0
         while True:
-            allocator.refuse_after(count)
+            allocator.allocator_refuse_after(count)
             try:
                 each()
             except ERRORS:
                 pass
             finally:
-                was_refused = allocator.refuse_none()
+                was_refused = allocator.allocator_refuse_none()
             if not was_refused:
                 return count
             count += 1
 
     def test_each_allocation(self):
         allocator = ctypes.CDLL(REFUSING)
+        # the number that it would seem to answer were an allocation of Python
+        allocator.allocator_refuse_after.argtypes, allocator.allocator_refuse_after.restype = [ctypes.c_long], None
         collects = gc.isenabled()
         for each in GOOD + BAD:
             self.refused(allocator, each)

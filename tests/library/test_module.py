@@ -11,8 +11,10 @@ import io
 import json
 import os
 import pickle
+import re
 import struct
 import subprocess
+import sys
 import traceback
 import unittest
 import warnings
@@ -22,12 +24,18 @@ from pathlib import Path
 from xml.etree import ElementTree
 
 import mvt
+from mvt._mvt import cause_text, finding_text, note_text
+from mvt._numbers import FINDINGS, NOTES
 
-TILES = Path(__file__).resolve().parents[2] / "examples" / "tiles"
+sys.path.insert(0, str(Path(__file__).resolve().parents[1] / "program"))
+
+from wire import field, packed, varint, zigzag  # noqa: E402
+
+TILES = Path(__file__).resolve().parents[2] / "fixtures" / "tiles"
 WHOLE = ("gdal", "postgis")
 SVG = "{http://www.w3.org/2000/svg}"
 LISTS = ("layers", "features", "keys", "values", "tags", "parts", "points", "integers", "texts")
-CALLS = (mvt.judge, mvt.lint, mvt.read, mvt.rows, mvt.report, mvt.rewrite, mvt.to_json, mvt.to_svg)
+CALLS = (mvt.judge, mvt.lint, mvt.read, mvt.rows, mvt.report, mvt.rewrite, mvt.survey, mvt.to_json, mvt.to_svg)
 
 
 def tile(name):
@@ -35,8 +43,8 @@ def tile(name):
 
 
 def broken(name):
-    packed = TILES / "broken" / (name + ".mvt.gz")
-    return gzip.decompress(packed.read_bytes()) if packed.exists() else tile("broken/%s.mvt" % name)
+    compressed = TILES / "broken" / (name + ".mvt.gz")
+    return gzip.decompress(compressed.read_bytes()) if compressed.exists() else tile("broken/%s.mvt" % name)
 
 
 def shown_value(value):
@@ -84,27 +92,8 @@ def told(row):
     return tuple(told(getattr(row, name)) for name, _ in row._fields_)
 
 
-def varint(number):
-    spelled = bytearray()
-    while number > 127:
-        spelled.append(number & 127 | 128)
-        number >>= 7
-    return bytes(spelled + bytes([number]))
-
-
-def field(number, body):
-    """A field of bytes, or of a number."""
-    if isinstance(body, int):
-        return varint(number << 3) + varint(body)
-    return varint(number << 3 | 2) + varint(len(body)) + body
-
-
-def zigzag(number):
-    return number << 1 if number >= 0 else (-number << 1) - 1
-
-
 def zigzags(*numbers):
-    return b"".join(varint(zigzag(number)) for number in numbers)
+    return packed(map(zigzag, numbers))
 
 
 class WholeTiles(unittest.TestCase):
@@ -135,6 +124,9 @@ class WholeTiles(unittest.TestCase):
         for of in [path.read_bytes() for path in sorted(TILES.glob("*.mvt"))] + made:
             told = subprocess.run([os.environ["MVT"], "check"], input=of, capture_output=True, check=True).stdout.decode()
             self.assertEqual((mvt.report(of), str(mvt.report(of))), (told, told))
+            survey = mvt.survey(of)
+            first = f"ok layers {survey.layers} features {survey.features} canonical {'yes' if survey.canonical else 'no'}"
+            self.assertEqual([first] + [f"note {note}" for note in survey.notes], told.splitlines())
             self.assertIsNone(mvt.judge(of))
         self.assertEqual(len(mvt.report(made[1]).splitlines()), 11)
 
@@ -185,8 +177,29 @@ class WholeTiles(unittest.TestCase):
             mvt.Finding("UnknownGeometry", 0, 3),
             mvt.Finding("ZeroExtent", 1),
         ])
+        self.assertEqual("; ".join(map(str, mvt.lint(found))), "FarPoint layer 0 feature 0 position 20000 -7; LargeId layer 0 feature 1; "
+            "LargeNumber layer 0 feature 1 attribute 0; NoGeometry layer 0 feature 2; UnknownGeometry layer 0 feature 3; ZeroExtent layer 1")
         for of in [path.read_bytes() for path in sorted(TILES.glob("*.mvt"))]:
             self.assertEqual(mvt.lint(of), [])
+
+    def test_notes_and_findings_mean_what_the_document_says(self):
+        document = (TILES.parent.parent / "docs" / "PROGRAM.md").read_text()
+        notes = re.findall(r"^\| `note (\w+).*` \| (.*) \|$", document, re.MULTILINE)
+        self.assertEqual([kind for kind, _ in notes], list(NOTES.values()))
+        for kind, when in notes:
+            self.assertEqual(mvt.Note(kind).explanation.lower(), f"{when}.".lower())
+        findings = re.findall(r"^\| `lint (\w+).*?` \| (.*) \| (.*) \|$", document, re.MULTILINE)
+        self.assertEqual([kind for kind, *_ in findings], list(FINDINGS.values()))
+        for kind, when, happens in findings:
+            self.assertEqual(mvt.Finding(kind, 0).explanation.lower(), f"{when}. {happens}.".lower())
+
+    def test_causes_are_those_of_the_document(self):
+        rules = re.findall(r"^\| (\d+) \| (\w+) \|", (TILES.parent.parent / "docs" / "FORMAT.md").read_text(), re.MULTILINE)
+        self.assertEqual({int(number): name for number, name in rules}, mvt.CAUSES)
+        self.assertEqual([cause_text(number)[-1] for number in mvt.CAUSES], ["."] * len(mvt.CAUSES))
+        self.assertEqual([text(99) for text in (cause_text, note_text, finding_text)],
+                         ["no cause of this library", "no note of this library", "no finding of this library"])
+        self.assertEqual(mvt.LIMIT, 2**26)
 
     def test_rewrites(self):
         for name in WHOLE:
@@ -439,18 +452,18 @@ class BrokenTiles(unittest.TestCase):
 
     def test_says_what_bytes_look_like(self):
         whole = tile("gdal.mvt")
-        for packed in [gzip.compress(whole)] + [zlib.compress(whole, level) for level in (1, 5, 6, 9)]:
-            kind = "gzip" if packed[0] == 0x1F else "zlib"
+        for compressed in [gzip.compress(whole)] + [zlib.compress(whole, level) for level in (1, 5, 6, 9)]:
+            kind = "gzip" if compressed[0] == 0x1F else "zlib"
             wanted = f"This isn't a tile, but looks like {kind}. A tile is read uncompressed: unpack it first."
             for call in CALLS:
                 with self.assertRaises(mvt.Refused) as caught:
-                    call(packed)
+                    call(compressed)
                 self.assertTrue(caught.exception.explanation.endswith(wanted))
                 self.assertTrue(str(caught.exception).endswith(wanted))
             with self.assertRaises(mvt.Refused) as caught:
                 decoder = mvt.Decoder()
-                for at in range(0, len(packed), 2):
-                    decoder.feed(packed[at : at + 2])
+                for at in range(0, len(compressed), 2):
+                    decoder.feed(compressed[at : at + 2])
                 decoder.finish()
             fault = caught.exception
             self.assertTrue(fault.explanation.endswith(wanted))

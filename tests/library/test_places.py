@@ -1,7 +1,7 @@
-"""Where faults stand, as the library says, and as tests/examples/places.py finds by itself: test_places.py TILE..
+"""Where faults stand, as the library says, and as tests/program/places.py finds by itself: test_places.py TILE..
 
 Of the tiles, of inputs that are no tiles, and of tiles in pieces, those that are refused are compared. What is said of them
-is that of examples/tiles/broken/explained.txt."""
+is that of fixtures/tiles/broken/explained.txt."""
 
 import sys
 import unittest
@@ -9,7 +9,7 @@ from pathlib import Path
 
 import mvt
 
-sys.path.insert(0, str(Path(__file__).resolve().parents[1] / "examples"))
+sys.path.insert(0, str(Path(__file__).resolve().parents[1] / "program"))
 import places
 
 TILES = []

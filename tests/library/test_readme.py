@@ -13,8 +13,8 @@ import unittest
 from pathlib import Path
 
 TOP = Path(__file__).resolve().parents[2]
-TILE = (TOP / "examples" / "tiles" / "gdal.mvt").read_bytes()
-WANTED = (TOP / "examples" / "tiles" / "gdal.check").read_text()
+TILE = (TOP / "fixtures" / "tiles" / "gdal.mvt").read_bytes()
+WANTED = (TOP / "fixtures" / "tiles" / "gdal.check").read_text()
 
 
 def line():

@@ -1,6 +1,6 @@
 """The library's calls on tiles of the sizes at which code could turn, by the Python module: with ample memory each answers.
 
-tests/examples/sizes.py makes the tiles, their canonical bytes and their JSON by itself.
+tests/program/sizes.py makes the tiles, their canonical bytes and their JSON by itself.
 """
 
 import json
@@ -11,7 +11,7 @@ from pathlib import Path
 import mvt
 from test_module import shown
 
-sys.path.insert(0, str(Path(__file__).resolve().parents[1] / "examples"))
+sys.path.insert(0, str(Path(__file__).resolve().parents[1] / "program"))
 
 import sizes  # noqa: E402
 

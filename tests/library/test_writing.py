@@ -8,7 +8,7 @@ from pathlib import Path
 
 import mvt
 
-TILES = Path(__file__).resolve().parents[2] / "examples" / "tiles"
+TILES = Path(__file__).resolve().parents[2] / "fixtures" / "tiles"
 WHOLE = ("gdal", "postgis")
 POINT = mvt.Tile([mvt.Layer("a", 4096, [mvt.Feature(None, {}, "points", [(25, 17)])])])
 

@@ -11,6 +11,8 @@ def use(content: bytes) -> List[int]:
     versions: List[int] = [layer.version for layer in flat.layers]
     places: List[Tuple[int, int]] = [(point.x, point.y) for point in flat.points]
     tags: Sequence[int] = flat.tags
+    columns: List[str] = list(flat.frame("water", keys=["name"]).columns)
+    flat.frame(5)  # type: ignore[arg-type]
     flat.layers[0].name.start = "a"  # type: ignore[assignment]
 
     tile = mvt.read(content)
@@ -36,4 +38,4 @@ def use(content: bytes) -> List[int]:
         fault.start + 1  # type: ignore[operator]
         places += [(0, end) for end in where if end is not None]
     sizes += [len(ids), len(notes), len(text)]
-    return sizes + versions + all_versions + [first.extent, len(places), len(tags), len(kinds), len(both), len(names), len(built)]
+    return sizes + versions + all_versions + [first.extent, len(places), len(columns), len(tags), len(kinds), len(both), len(names), len(built)]

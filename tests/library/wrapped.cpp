@@ -337,6 +337,31 @@ void pieces(mvt::byte_span input) {
     }
 }
 
+/// What is noted and found is what the lines say, and is held by one owner at a time.
+void remark(mvt::byte_span input) {
+    mvt::summary first = mvt::survey(input);
+    const mvt::summary told = std::move(first);
+    const mvt::tile tile = mvt::read(input);
+    require(told.layers() == tile.layers().size() && told.features() == tile.rows().feature_count, "what is counted");
+    require(told.is_canonical() == std::ranges::equal(input, mvt::rewrite(input)), "whether it is canonical");
+    require(told.notes().empty() && first.notes().empty() && mvt::lint_rows(input).empty(), "nothing to remark");
+    // The layer `a` with a feature of unknown type without integers, and the layer `b` without features.
+    const std::string odd("\x1a\x07\x78\x02\x0a\x01\x61\x12\x00\x1a\x05\x78\x02\x0a\x01\x62", 16);
+    mvt::summary noted;
+    noted = mvt::survey(odd);
+    require(noted.notes().size() == 1 && noted.notes()[0].kind == MVT_NOTE_NO_FEATURES && noted.notes()[0].layer == 1, "a note");
+    const mvt::findings found = mvt::lint_rows(odd);
+    for (const mvt_finding_row &row : found)
+        require(row.kind == MVT_FINDING_NO_GEOMETRY && row.layer == 0 && row.has_feature == 1 && row.feature == 0, "a finding");
+    require(found.size() == 1, "one finding");
+    try {
+        static_cast<void>(mvt::survey(std::string_view("\0", 1)));
+        require(false, "a broken tile is surveyed");
+    } catch (const mvt::refused &why) {
+        require(why.cause() == MVT_CAUSE_FIELD_NUMBER && why.name() == "FieldNumber", "its cause");
+    }
+}
+
 /// Four threads get what one gets.
 void share(mvt::byte_span input) {
     const mvt::bytes rewritten = mvt::rewrite(input), shown = mvt::json(input);
@@ -371,6 +396,7 @@ void call(const std::string &command, const std::vector<std::string_view> &names
     if (command == "kinds") return kinds(input);
     if (command == "pieces") return pieces(input);
     if (command == "write") return write(input);
+    if (command == "remark") return remark(input);
     if (command == "check") return put(mvt::report(input));
     if (command == "lint") return put(mvt::lint(input));
     put(command == "show" ? mvt::json(input) : mvt::svg(input));

@@ -3,7 +3,7 @@
 
     compare_requests.py SHIM TESTS NAME OTHER..
 
-SHIM is the library built of refuse.c, TESTS the executable of the tests that `rt ci` leaves, and NAME and
+SHIM is the library built of tests/allocator, TESTS the executable of the tests that `rt ci` leaves, and NAME and
 each OTHER are its tests. The last line is 'N passed, M failed', and the exit status is 1 where a test fails
 or an OTHER asks no more often.
 """

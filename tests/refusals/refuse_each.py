@@ -3,7 +3,7 @@
 
     refuse_each.py SHIM WORD [--seen TEST TEXT] TESTS..
 
-SHIM is the library built of refuse.c, WORD a part of the names of the tests, and TESTS are the
+SHIM is the library built of tests/allocator, WORD a part of the names of the tests, and TESTS are the
 executables of tests that `rt ci` leaves (crates/NAME/out/NAME_tests). A test passes here if it
 passes under every refusal, and one that asks for no memory if it passes; a line tells how many runs
 there were. TEST, an executable's name and a test's, as 'NAME_tests tests::reads', has to print TEXT in one

@@ -4,7 +4,7 @@ lines that are refused, or name no command, on a tile of one point.
 
     sweep_program.py SHIM MVT
 
-SHIM is the library built of refuse.c, MVT the executable that `rt ci` leaves. The tile and all that the
+SHIM is the library built of tests/allocator, MVT the executable that `rt ci` leaves. The tile and all that the
 commands answer for it are made here, from the format alone. A run answers as ever, or wants memory: then
 its status is 4, its line stands on the error stream, and nothing on the output. The last line is 'N passed, M failed'.
 """
@@ -14,37 +14,21 @@ import os
 import subprocess
 import sys
 import tempfile
+from pathlib import Path
+
+sys.path.insert(0, str(Path(__file__).resolve().parents[1] / "program"))
+
+from wire import field, packed, zigzag  # noqa: E402
 
 FEATURES = 305
 TIMEOUT_SECONDS = 60
 MOST_ALLOCATIONS = 100_000
 
 
-def varint(number):
-    spelled = b""
-    while number >= 128:
-        spelled += bytes([number % 128 + 128])
-        number //= 128
-    return spelled + bytes([number])
-
-
-def field(number, payload):
-    return varint(8 * number + 2) + varint(len(payload)) + payload
-
-
-def number_field(number, value):
-    return varint(8 * number) + varint(value)
-
-
-def zigzag(number):
-    return 2 * number if number >= 0 else -2 * number - 1
-
-
 def feature(index):
     """A point with an id and two attributes: a name of its own, and a key and a value for all."""
-    tags = varint(0) + varint(0) + varint(1) + varint(index + 1)
-    point = varint(9) + varint(zigzag(index)) + varint(zigzag(-index))
-    return number_field(1, index) + field(2, tags) + number_field(3, 1) + field(4, point)
+    tags, point = packed([0, 0, 1, index + 1]), packed([9, zigzag(index), zigzag(-index)])
+    return field(1, index) + field(2, tags) + field(3, 1) + field(4, point)
 
 
 def name_of(index):
@@ -53,12 +37,12 @@ def name_of(index):
 
 def tile():
     """The tile's canonical bytes: a value is first used in the order of the features."""
-    layer = number_field(15, 2) + field(1, b"places")
+    layer = field(15, 2) + field(1, b"places")
     layer += b"".join(field(2, feature(index)) for index in range(FEATURES))
     layer += field(3, b"kind") + field(3, b"name")
-    layer += field(4, number_field(5, 7))
+    layer += field(4, field(5, 7))
     layer += b"".join(field(4, field(1, name_of(index).encode())) for index in range(FEATURES))
-    return field(3, layer + number_field(5, 4096)), len(layer) + 3
+    return field(3, layer + field(5, 4096)), len(layer) + 3
 
 
 def compact(value):

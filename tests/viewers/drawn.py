@@ -5,7 +5,7 @@ import subprocess
 import sys
 from concurrent.futures import ThreadPoolExecutor
 
-sys.path.insert(0, str(pathlib.Path(__file__).parent.parent.parent / "examples/viewers"))
+sys.path.insert(0, str(pathlib.Path(__file__).parent.parent.parent / "evidence/viewers"))
 from mapbox_gl import draw
 
 mvt, tiles, built = sys.argv[1], pathlib.Path(sys.argv[2]), pathlib.Path(sys.argv[3])

@@ -19,9 +19,6 @@ import (
 	"huranvi.example/mvt"
 )
 
-// limit is how many bytes a tile has at most.
-const limit = 67_108_864
-
 // New is a handler that hands requests on to a server, and judges each answer of a status from 200 to 299 but 204, which has
 // no content: a good tile is passed on as it came, plain or packed by gzip; for any other answer the status is 502, and the
 // text is the line that the program mvt prints and the fault in plain words. Answers of another status, and those to HEAD, are
@@ -100,7 +97,7 @@ func judge(response *http.Response) error {
 		return nil
 	}
 	// What is larger as it is stored is larger unpacked, or no gzip worth the name.
-	stored, err := io.ReadAll(io.LimitReader(response.Body, limit+1))
+	stored, err := io.ReadAll(io.LimitReader(response.Body, mvt.Limit+1))
 	if err != nil {
 		return &unfit{"the tile server's answer ends early"}
 	}
@@ -129,7 +126,7 @@ func unpacked(stored []byte, encoding string) ([]byte, error) {
 	reader, err := gzip.NewReader(bytes.NewReader(stored))
 	if err == nil {
 		var tile []byte
-		if tile, err = io.ReadAll(io.LimitReader(reader, limit+1)); err == nil {
+		if tile, err = io.ReadAll(io.LimitReader(reader, mvt.Limit+1)); err == nil {
 			return tile, nil
 		}
 	}

@@ -10,6 +10,8 @@ import (
 	"net/url"
 	"strings"
 	"testing"
+
+	"huranvi.example/mvt"
 )
 
 var (
@@ -41,7 +43,7 @@ var answers = map[string]struct {
 	"/no-gzip":        {good, "gzip"},
 	"/brotli":         {good, "br"},
 	// An unknown field with so many bytes.
-	"/large": {packed(append([]byte{0x7a, 0x80, 0x80, 0x80, 0x20}, make([]byte, limit)...)), ""},
+	"/large": {packed(append([]byte{0x7a, 0x80, 0x80, 0x80, 0x20}, make([]byte, mvt.Limit)...)), ""},
 }
 
 func serve(w http.ResponseWriter, r *http.Request) {

@@ -12,18 +12,13 @@ says the layer, the feature, the place and the cause of the first broken rule. E
 uncompressed tile. Threads may call at the same time.
 """
 
-from . import _command
-
-_command.begin()
-
-from typing import TYPE_CHECKING, Any, Union
 from importlib.util import find_spec as _find_spec
+from typing import TYPE_CHECKING, Any, Union
 
 if _find_spec("._mvt", __name__) is None:
     raise ModuleNotFoundError(f"{__path__[0]} has no _mvt.abi3.so: `library/build` makes it", name="mvt._mvt")
 
 from ._errors import MvtError, NoLayer, NoTile, OutOfRange, Refused, TooLarge
-from ._lint import Finding, lint
 from ._mvt import (
     Builder,
     Decoder,
@@ -45,13 +40,16 @@ from ._mvt import (
     version,
     write,
 )
-from ._report import Note, Report, report
+from ._numbers import CAUSES, LIMIT
+from ._remarks import Finding, Note, Report, Survey, lint, report, survey
 from ._tiles import Feature, Foreign, Kind, Layer, Point, Tile
 from ._values import Float, Int, Sint, Uint, Value
 from .geojson import MadeLayer, Vanished, from_geojson, to_geojson
 
 if TYPE_CHECKING:
     import numpy
+
+    from ._frames import Frame
 
 __version__ = version()
 
@@ -66,9 +64,22 @@ def dtype(name: str) -> "numpy.dtype[Any]":
     return dtype(name)
 
 
+def to_geopandas(layer: "Union[Layer, Frame]", z: int, x: int, y: int, decimals: int = 7) -> Any:
+    """A layer as a GeoDataFrame of geopandas: the layer of the tile at a place, in degrees of WGS 84.
+
+    A frame (`Rows.frame`) is much faster than a layer of plain objects, and tells the columns' types. The index has the
+    ids, if each feature has one. A geometry of an unknown kind, or in a layer of extent 0, is None. The column of
+    geometries is named "geometry", or "_geometry" if the layer has such a key. Raises ImportError without geopandas.
+    """
+    from ._geopandas import to_geopandas
+
+    return to_geopandas(layer, z, x, y, decimals)
+
+
 __all__ = [
     "Buffer",
     "Builder",
+    "CAUSES",
     "Decoder",
     "Feature",
     "FeatureRow",
@@ -77,6 +88,7 @@ __all__ = [
     "Foreign",
     "Int",
     "Kind",
+    "LIMIT",
     "Layer",
     "LayerRow",
     "MadeLayer",
@@ -93,6 +105,7 @@ __all__ = [
     "Rows",
     "Sint",
     "Span",
+    "Survey",
     "Tile",
     "TooLarge",
     "Uint",
@@ -109,7 +122,9 @@ __all__ = [
     "report",
     "rewrite",
     "rows",
+    "survey",
     "to_geojson",
+    "to_geopandas",
     "to_json",
     "to_svg",
     "write",

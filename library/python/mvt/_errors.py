@@ -56,7 +56,7 @@ class Refused(MvtError):
 
 
 class TooLarge(MvtError):
-    """The result would be larger than 67,108,864 bytes."""
+    """The result would be larger than `LIMIT`."""
 
 
 class NoLayer(MvtError, KeyError):

@@ -1,5 +1,7 @@
-/* The library's answers without exceptions, for mvt-audit and mvt-page: a status, a fault, and what was made. */
+/* The library's answers without exceptions, for mvt-page: a status, a fault, and what was made. */
 #include "module.h"
+
+#include <stdlib.h>
 
 static PyObject *lent_bytes(mvt_bytes text) {
     return PyBytes_FromStringAndSize(text.len == 0 ? "" : (const char *)text.data, (Py_ssize_t)text.len);
@@ -38,11 +40,43 @@ static PyObject *answered(state *of, uint32_t status, const mvt_fault *fault, he
     return made == NULL ? NULL : Py_BuildValue("(kN)", (unsigned long)status, made);
 }
 
+/* A head and rows in one block; of nothing at all there is none. */
+static mvt_status put_rows(const void *head, size_t head_len, const void *rows, size_t len, mvt_bytes *out) {
+    if (head_len + len == 0) return MVT_OK;
+    uint8_t *made = malloc(head_len + len);
+    if (made == NULL) return MVT_NO_MEMORY;
+    memcpy(made, head, head_len);
+    if (len != 0) memcpy(made + head_len, rows, len);
+    out->data = made, out->len = head_len + len;
+    return MVT_OK;
+}
+
+/* The counts of layers and features, whether the bytes are canonical, and the rows of the notes; of 64 bits but these. */
+static mvt_status survey(const uint8_t *bytes, size_t len, mvt_bytes *out, mvt_fault *fault) {
+    mvt_summary told;
+    uint32_t status = mvt_survey(bytes, len, &told, fault);
+    if (status != MVT_OK) return status;
+    const uint64_t head[] = {told.layers, told.features, told.is_canonical};
+    status = put_rows(head, sizeof head, told.notes, told.note_count * sizeof *told.notes, out);
+    mvt_summary_free(&told);
+    return status;
+}
+
+/* The rows of the findings. */
+static mvt_status findings(const uint8_t *bytes, size_t len, mvt_bytes *out, mvt_fault *fault) {
+    mvt_findings told;
+    uint32_t status = mvt_lint_rows(bytes, len, &told, fault);
+    if (status != MVT_OK) return status;
+    status = put_rows("", 0, told.rows, told.count * sizeof *told.rows, out);
+    mvt_findings_free(&told);
+    return status;
+}
+
 /* The calls that make bytes. */
 static const struct {
     const char *name;
     mvt_status (*call)(const uint8_t *, size_t, mvt_bytes *, mvt_fault *);
-} MAKING[] = {{"report", mvt_report}, {"lint", mvt_lint}, {"rewrite", mvt_rewrite}, {"json", mvt_json}, {"svg", mvt_svg}, {NULL, NULL}};
+} MAKING[] = {{"survey", survey}, {"findings", findings}, {"rewrite", mvt_rewrite}, {"json", mvt_json}, {"svg", mvt_svg}, {NULL, NULL}};
 
 /* Works on a tile, with the lock let go. */
 static uint32_t work(const char *name, PyObject *tile, unsigned long long most, held *out, mvt_fault *fault) {
@@ -56,7 +90,7 @@ static uint32_t work(const char *name, PyObject *tile, unsigned long long most, 
     if (MAKING[at].name != NULL) {
         status = MAKING[at].call(bytes, len, &made, fault);
     } else if (strcmp(name, "rows") == 0) {
-        status = mvt_read_within(bytes, len, most, &out->tile, fault);
+        status = mvt_read(bytes, len, most, &out->tile, fault);
     } else {
         status = mvt_judge(bytes, len, fault);
     }
@@ -83,50 +117,6 @@ static PyObject *answer(PyObject *module, PyObject *words) {
     return told;
 }
 
-/* The report of a tile and its findings. */
-static uint32_t look(PyObject *tile, mvt_bytes *report, mvt_bytes *lint, mvt_fault *fault) {
-    size_t len;
-    const uint8_t *bytes = content_of(tile, &len);
-    uint32_t status;
-    Py_BEGIN_ALLOW_THREADS
-    status = mvt_report(bytes, len, report, fault);
-    if (status == MVT_OK) status = mvt_lint(bytes, len, lint, fault);
-    Py_END_ALLOW_THREADS
-    return status;
-}
-
-/* Whether a report is its first line. */
-static int is_line(mvt_bytes report) {
-    const uint8_t *end = memchr(report.data, '\n', report.len);
-    return end != NULL && (size_t)(end - report.data) + 1 == report.len;
-}
-
-static PyObject *none(void) {
-    Py_INCREF(Py_None);
-    return Py_None;
-}
-
-static PyObject *looked_at(PyObject *module, PyObject *given) {
-    (void)module;
-    PyObject *told, *tile = bytes_of(given);
-    if (tile == NULL) return NULL;
-    mvt_bytes report = {NULL, 0}, lint = {NULL, 0};
-    mvt_fault fault = {0};
-    const uint32_t status = look(tile, &report, &lint, &fault);
-    if (status != MVT_OK && status != MVT_REFUSED) {
-        told = PyErr_NoMemory();
-    } else if (status == MVT_OK && is_line(report) && lint.len == 0) {
-        told = none();
-    } else {
-        PyObject *why = status == MVT_REFUSED ? fault_told(&fault) : none();
-        told = Py_BuildValue("(NNN)", why, lent_bytes(report), lent_bytes(lint));
-    }
-    mvt_bytes_free(&report);
-    mvt_bytes_free(&lint);
-    Py_DECREF(tile);
-    return told;
-}
-
 /* Of bytes of names: what mvt_extract answers. */
 static uint32_t extract(PyObject *tile, PyObject *names, held *out, mvt_fault *fault) {
     const Py_ssize_t count = PyList_Size(names);
@@ -137,7 +127,7 @@ static uint32_t extract(PyObject *tile, PyObject *names, held *out, mvt_fault *f
     const uint8_t *bytes = content_of(tile, &len);
     uint32_t status;
     Py_BEGIN_ALLOW_THREADS
-    status = mvt_extract(bytes, len, lent, (size_t)count, &made, fault);
+    status = mvt_extract(bytes, len, lent, (size_t)count, &made, fault, NULL);
     Py_END_ALLOW_THREADS
     if (made.len != 0) out->tile.texts = made.data, out->tile.text_len = made.len;
     PyMem_Free(lent);
@@ -200,11 +190,7 @@ static PyObject *located(PyObject *module, PyObject *words) {
 PyMethodDef ANSWERS_CALLS[] = {
     {"answer", answer, METH_VARARGS,
      "answer($module, call, tile, most=18446744073709551615, /)\n--\n\n"
-     "The status of a call (judge, report, lint, rewrite, json, svg or rows) and the fault, or what was made."},
-    {"looked_at", looked_at, METH_O,
-     "looked_at($module, tile, /)\n--\n\n"
-     "The fault or None, the report, and what `mvt lint` prints; or nothing but None, where there is no fault, no note and no\n"
-     "finding. Raises MemoryError."},
+     "The status of a call (judge, survey, findings, rewrite, json, svg or rows) and the fault, or what was made."},
     {"answer_extract", answer_extract, METH_VARARGS,
      "answer_extract($module, tile, names, /)\n--\n\nThe same, of the layers that bytes name."},
     {"located", located, METH_VARARGS,

@@ -140,12 +140,7 @@ static PyObject *rows(PyObject *self, PyObject *unused) {
 
 static PyObject *finish(PyObject *self, PyObject *unused) {
     (void)unused;
-    mvt_tile tile;
-    if (build_rows(to(self), &tile) < 0) return NULL;
-    to(self)->busy = 1;
-    PyObject *made = written(to(self)->of, &tile);
-    to(self)->busy = 0;
-    return made;
+    return build_finish(to(self));
 }
 
 static PyMethodDef METHODS[] = {
@@ -173,7 +168,8 @@ static PyMethodDef METHODS[] = {
      "Takes the feature back that was begun last and isn't ended, as one whose geometry came to nothing."},
     {"rows", rows, METH_NOARGS, "rows($self)\n--\n\nThe tile so far as flat rows."},
     {"finish", finish, METH_NOARGS,
-     "finish($self)\n--\n\nThe canonical bytes of the tile. Raises NoTile for what is no valid tile, and TooLarge."},
+     "finish($self)\n--\n\n"
+     "The canonical bytes of the tile. The builder begins anew. Raises NoTile for what is no valid tile, and TooLarge."},
     {NULL, NULL, 0, NULL},
 };
 
@@ -184,7 +180,8 @@ static const char DOC[] =
     "    builder.layer(\"places\")\n"
     "    builder.feature(\"points\", id=7).tag(\"name\", \"Mill Pond\").point(25, 17)\n"
     "    tile = builder.finish()\n\n"
-    "A key or a value that stands in a layer already isn't written again. A call that raises changes nothing.";
+    "A key or a value that stands in a layer already isn't written again. Another call than `finish` that\n"
+    "raises changes nothing.";
 
 static PyMemberDef MEMBERS[] = {WEAK_MEMBER(builder), {NULL, 0, 0, 0, NULL}};
 

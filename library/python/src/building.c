@@ -10,17 +10,9 @@ static int not_due(const building *to, const char *why) {
     return -1;
 }
 
-static int need_free(const building *to) {
-    return to->busy ? not_due(to, "another thread has the builder finish its tile") : 0;
-}
-
-static int need_layer(const building *to) {
-    if (need_free(to) < 0) return -1;
-    return to->layer == NULL ? not_due(to, "begin a layer first") : 0;
-}
+static int need_layer(const building *to) { return to->layer == NULL ? not_due(to, "begin a layer first") : 0; }
 
 static int need_feature(const building *to, int kind) {
-    if (need_free(to) < 0) return -1;
     if (!to->in_feature) return not_due(to, "begin a feature first");
     if (kind < 0 || kind == to->kind) return 0;
     PyErr_Format(to->of->error, "the feature is one of %U", to->of->kinds[to->kind]);
@@ -112,14 +104,6 @@ static void begin_layer(building *to, PyObject *name) {
     Py_XDECREF(before);
 }
 
-/* The library's builder takes no empty text as its first. So another stands before it, in a layer that build_rows leaves
- * out. */
-static uint32_t begin_texts(building *to, mvt_bytes first) {
-    if (first.len != 0 || to->rows.held != NULL) return MVT_OK;
-    to->left_out = 1;
-    return mvt_builder_foreign(&to->rows, 1, mvt_text("-"));
-}
-
 int build_layer(building *to, PyObject *name, PyObject *extent) {
     uint64_t told = 4096;
     PyObject *bytes = encoded(to->of, name);
@@ -130,9 +114,7 @@ int build_layer(building *to, PyObject *name, PyObject *extent) {
     }
     mvt_bytes lent;
     lent.data = content_of(bytes, &lent.len);
-    int status = need_free(to);
-    if (status == 0) status = raise_status(to, begin_texts(to, lent));
-    if (status == 0) status = raise_status(to, mvt_builder_layer(&to->rows, lent, (uint32_t)told));
+    const int status = raise_status(to, mvt_builder_layer(&to->rows, lent, (uint32_t)told));
     if (status == 0) begin_layer(to, name);
     Py_DECREF(bytes);
     return status;
@@ -147,13 +129,12 @@ int build_foreign(building *to, PyObject *version, PyObject *content) {
     }
     mvt_bytes lent;
     lent.data = content_of(bytes, &lent.len);
-    int status = need_free(to);
-    if (status == 0 && told == 2) {
+    int status = -1;
+    if (told == 2) {
         PyErr_SetString(to->of->no_tile, "a layer of version 2 isn't made of bytes");
-        status = -1;
+    } else {
+        status = raise_status(to, mvt_builder_foreign(&to->rows, (uint32_t)told, lent));
     }
-    if (status == 0) status = raise_status(to, begin_texts(to, lent));
-    if (status == 0) status = raise_status(to, mvt_builder_foreign(&to->rows, (uint32_t)told, lent));
     if (status == 0) begin_layer(to, NULL);
     Py_DECREF(bytes);
     return status;
@@ -281,10 +262,24 @@ int build_drop(building *to) {
 
 /* The rows of the tile so far, which stay the builder's. Ends the layer. */
 int build_rows(building *to, mvt_tile *rows) {
-    if (need_free(to) < 0 || raise_status(to, mvt_builder_rows(&to->rows, rows)) < 0) return -1;
+    if (raise_status(to, mvt_builder_rows(&to->rows, rows)) < 0) return -1;
     begin_layer(to, NULL);
-    rows->layers += to->left_out, rows->layer_count -= to->left_out;
     return 0;
+}
+
+/* The canonical bytes. The builder begins anew, whatever comes of it; what another thread adds meanwhile is of the next
+ * tile. */
+PyObject *build_finish(building *to) {
+    mvt_builder last = to->rows;
+    mvt_bytes out = {NULL, 0};
+    mvt_rows_fault wrong = {0};
+    uint32_t status;
+    to->rows.held = NULL;
+    begin_layer(to, NULL);
+    Py_BEGIN_ALLOW_THREADS
+    status = mvt_builder_finish(&last, &out, &wrong);
+    Py_END_ALLOW_THREADS
+    return made_of_rows(to->of, status, &out, &wrong);
 }
 
 void build_end(building *to) {

@@ -66,7 +66,7 @@ int raise_for(const state *of, uint32_t status, const mvt_fault *fault, const ui
     case MVT_OK: return 0;
     case MVT_REFUSED: raise_refused(of, fault, bytes, len, is_whole); break;
     case MVT_NO_MEMORY: PyErr_SetString(PyExc_MemoryError, "out of memory"); break;
-    case MVT_TOO_LARGE: PyErr_SetString(of->too_large, "the result is larger than 67108864 bytes"); break;
+    case MVT_TOO_LARGE: PyErr_SetString(of->too_large, mvt_status_text(status)); break;
     default: PyErr_SetString(of->error, mvt_status_text(status)); break;
     }
     return -1;
@@ -145,9 +145,6 @@ static PyObject *rewrite(PyObject *module, PyObject *words, PyObject *named) {
 static PyObject *report_lines(PyObject *module, PyObject *words, PyObject *named) {
     return made_of(module, words, named, mvt_report, as_text);
 }
-static PyObject *lint_lines(PyObject *module, PyObject *words, PyObject *named) {
-    return made_of(module, words, named, mvt_lint, as_text);
-}
 static PyObject *to_json(PyObject *module, PyObject *words, PyObject *named) {
     return made_of(module, words, named, mvt_json, as_text);
 }
@@ -188,7 +185,7 @@ static PyObject *extract_from(const state *of, PyObject *tile, PyObject *list, c
     const uint8_t *bytes = content_of(tile, &len);
     uint32_t status;
     Py_BEGIN_ALLOW_THREADS
-    status = mvt_extract_layers(bytes, len, names, count, &out, &fault, &missing);
+    status = mvt_extract(bytes, len, names, count, &out, &fault, &missing);
     Py_END_ALLOW_THREADS
     PyObject *made = NULL;
     if (status == MVT_NO_LAYER) {
@@ -235,7 +232,6 @@ PyMethodDef CALLS[] = {
      "The canonical bytes of the named layers, in the order of the tile.\n\n"
      "A name that stands twice counts once. Raises NoLayer where a name has no layer, Refused and TooLarge."},
     {"report_lines", WITH_WORDS(report_lines), OF_TILE(report_lines) "What `mvt check` prints of a tile. Raises Refused."},
-    {"lint_lines", WITH_WORDS(lint_lines), OF_TILE(lint_lines) "What `mvt lint` prints of a tile. Raises Refused."},
     {"to_json", WITH_WORDS(to_json), OF_TILE(to_json) "A tile as JSON, in one line. Raises Refused."},
     {"to_svg", WITH_WORDS(to_svg), OF_TILE(to_svg) "A picture of a tile in SVG. Raises Refused."},
     {"version", version, METH_NOARGS, "version($module)\n--\n\nThe version of the library, which is that of this module."},

@@ -41,7 +41,7 @@ static int decoder_init(PyObject *self, PyObject *words, PyObject *named) {
     take_turn(of);
     mvt_decoder_free(&of->decoder);
     of->known = 0;
-    const uint32_t status = mvt_decoder_new_within(&of->decoder, most);
+    const uint32_t status = mvt_decoder_new(&of->decoder, most);
     PyThread_release_lock(of->turn);
     return raise_for(of->of, status, NULL, NULL, 0, 0);
 }

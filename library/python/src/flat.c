@@ -127,9 +127,9 @@ static PyObject *flat_content(PyObject *self, PyObject *given) {
     return PyBytes_FromStringAndSize((const char *)from, len);
 }
 
-/* Calls a function of mvt._arrays, which alone wants numpy. */
-static PyObject *of_arrays(const char *function, PyObject *words) {
-    PyObject *module = words == NULL ? NULL : PyImport_ImportModule("mvt._arrays");
+/* Calls a function of a module that wants numpy. */
+static PyObject *of_numpy(const char *name, const char *function, PyObject *words) {
+    PyObject *module = words == NULL ? NULL : PyImport_ImportModule(name);
     PyObject *call = module == NULL ? NULL : PyObject_GetAttrString(module, function);
     PyObject *made = call == NULL ? NULL : PyObject_CallObject(call, words);
     Py_XDECREF(call);
@@ -143,7 +143,14 @@ static PyObject *flat_array(PyObject *self, PyObject *words, PyObject *named) {
     PyObject *name;
     if (!PyArg_ParseTupleAndKeywords(words, named, "U:array", known, &name)) return NULL;
     PyObject *rows = PyObject_GetAttr(self, name);
-    return rows == NULL ? NULL : of_arrays("array_over", Py_BuildValue("(ON)", name, rows));
+    return rows == NULL ? NULL : of_numpy("mvt._arrays", "array_over", Py_BuildValue("(ON)", name, rows));
+}
+
+static PyObject *flat_frame(PyObject *self, PyObject *words, PyObject *named) {
+    static char *known[] = {"layer", "keys", NULL};
+    PyObject *layer, *keys = Py_None;
+    if (!PyArg_ParseTupleAndKeywords(words, named, "O|O:frame", known, &layer, &keys)) return NULL;
+    return of_numpy("mvt._frames", "frame_of", Py_BuildValue("(OOO)", self, layer, keys));
 }
 
 static PyObject *flat_from_arrays(PyObject *type, PyObject *words, PyObject *named) {
@@ -153,7 +160,7 @@ static PyObject *flat_from_arrays(PyObject *type, PyObject *words, PyObject *nam
     }
     state *of = state_of_type((PyTypeObject *)type);
     PyObject *arrays = of == NULL ? NULL : named != NULL ? PyDict_Copy(named) : PyDict_New();
-    PyObject *contents = arrays == NULL ? NULL : of_arrays("contents_of", Py_BuildValue("(N)", arrays));
+    PyObject *contents = arrays == NULL ? NULL : of_numpy("mvt._arrays", "contents_of", Py_BuildValue("(N)", arrays));
     PyObject *made = contents == NULL ? NULL : flat_of_contents(of, contents);
     Py_XDECREF(contents);
     return made;
@@ -193,6 +200,11 @@ static PyMethodDef FLAT_METHODS[] = {
      "content($self, span, /)\n--\n\nA part of the texts, such as the bytes of a layer of another version."},
     {"array", WITH_WORDS(flat_array),
      "array($self, name)\n--\n\nOne list as a numpy array over the same memory, with the names of the fields of its rows."},
+    {"frame", WITH_WORDS(flat_frame),
+     "frame($self, layer, keys=None)\n--\n\n"
+     "The features of a layer of version 2, which is named or given as its row, as columns of numpy: an array for each\n"
+     "key, or for each of `keys`, and arrays of the ids and the geometries. Raises NoLayer, and MemoryError where there\n"
+     "are too many columns for all to be made."},
     {"from_arrays", (PyCFunction)(void (*)(void))flat_from_arrays, METH_VARARGS | METH_KEYWORDS | METH_CLASS,
      "from_arrays($type, /, **arrays)\n--\n\n"
      "Rows made of numpy arrays (or of what numpy makes arrays of), one for each list, by the name of the list.\n\n"

@@ -45,7 +45,7 @@ PyObject *bytes_of(PyObject *tile);
 const uint8_t *content_of(PyObject *bytes, size_t *len);
 int raise_for(const state *of, uint32_t status, const mvt_fault *fault, const uint8_t *bytes, size_t len, int is_whole);
 int raise_no_tile(const state *of, const mvt_rows_fault *wrong);
-extern PyMethodDef CALLS[], ANSWERS_CALLS[];
+extern PyMethodDef CALLS[], ANSWERS_CALLS[], REMARKS_CALLS[], SIZES_CALLS[];
 
 /* Rows. A list and a row look into memory of an owner, which lasts as long as they do. Nothing changes the rows of a tile,
  * which are read while other threads run. */
@@ -123,8 +123,7 @@ typedef struct {
     mvt_builder rows;
     PyObject *layer; /* the name of the layer that is begun, or NULL */
     uint64_t ended;  /* features of the layer before the one that is begun */
-    int in_feature, kind, busy;
-    size_t left_out; /* layers at the front that aren't the tile's */
+    int in_feature, kind;
 } building;
 
 int build_layer(building *to, PyObject *name, PyObject *extent);
@@ -135,13 +134,14 @@ int build_points(building *to, PyObject *points);
 int build_part(building *to, int kind, int exterior, PyObject *points);
 int build_integers(building *to, PyObject *integers);
 int build_rows(building *to, mvt_tile *rows);
+PyObject *build_finish(building *to);
 int build_at(building *to, PyObject *text, PyObject *value, uint32_t *index);
 int build_tag_at(building *to, PyObject *key, PyObject *value);
 int build_drop(building *to);
 void build_end(building *to);
 
 /* The canonical bytes of rows. */
-PyObject *written(const state *of, const mvt_tile *rows);
+PyObject *made_of_rows(const state *of, uint32_t status, mvt_bytes *out, const mvt_rows_fault *wrong);
 extern PyMethodDef WRITING_CALLS[];
 
 /* The member that lets weak references to an object be made. */

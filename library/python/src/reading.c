@@ -284,7 +284,7 @@ static int read_rows(const state *of, PyObject *given, unsigned long long most, 
     const uint8_t *bytes = content_of(tile, &len);
     uint32_t status;
     Py_BEGIN_ALLOW_THREADS
-    status = mvt_read_within(bytes, len, most, out, &fault);
+    status = mvt_read(bytes, len, most, out, &fault);
     Py_END_ALLOW_THREADS
     const int failed = raise_for(of, status, &fault, bytes, len, 1);
     Py_DECREF(tile);

@@ -1,22 +1,27 @@
 /* Tiles written as bytes, from plain objects or from flat rows. */
 #include "module.h"
 
+/* The bytes that were made of rows, which are given back, or NULL with what the status means. */
+PyObject *made_of_rows(const state *of, uint32_t status, mvt_bytes *out, const mvt_rows_fault *wrong) {
+    PyObject *made = NULL;
+    if (status == MVT_NO_TILE) {
+        raise_no_tile(of, wrong);
+    } else if (raise_for(of, status, NULL, NULL, 0, 0) == 0) {
+        made = PyBytes_FromStringAndSize((const char *)out->data, (Py_ssize_t)out->len);
+    }
+    mvt_bytes_free(out);
+    return made;
+}
+
 /* The canonical bytes of the tile that rows are. The lock is let go meanwhile. */
-PyObject *written(const state *of, const mvt_tile *rows) {
+static PyObject *written(const state *of, const mvt_tile *rows) {
     mvt_bytes out = {NULL, 0};
     mvt_rows_fault wrong = {0};
     uint32_t status;
-    PyObject *made = NULL;
     Py_BEGIN_ALLOW_THREADS
-    status = mvt_write_rows(rows, &out, &wrong);
+    status = mvt_write(rows, &out, &wrong);
     Py_END_ALLOW_THREADS
-    if (status == MVT_NO_TILE) {
-        raise_no_tile(of, &wrong);
-    } else if (raise_for(of, status, NULL, NULL, 0, 0) == 0) {
-        made = PyBytes_FromStringAndSize((const char *)out.data, (Py_ssize_t)out.len);
-    }
-    mvt_bytes_free(&out);
-    return made;
+    return made_of_rows(of, status, &out, &wrong);
 }
 
 /* What adds one item of a list to a tile that is built. */
@@ -137,13 +142,12 @@ static PyObject *write_tile(PyObject *module, PyObject *words, PyObject *named) 
     PyObject *given, *made = NULL;
     if (!PyArg_ParseTupleAndKeywords(words, named, "O:write", known, &given)) return NULL;
     const state *of = state_of_module(module);
-    mvt_tile rows;
     if (PyObject_TypeCheck(given, (PyTypeObject *)of->flat)) {
-        rows = tile_of_flat((flat *)given);
+        const mvt_tile rows = tile_of_flat((flat *)given);
         return written(of, &rows);
     }
     building to = {.of = of};
-    if (add_each_of(&to, given, NAME_LAYERS, add_layer) == 0 && build_rows(&to, &rows) == 0) made = written(of, &rows);
+    if (add_each_of(&to, given, NAME_LAYERS, add_layer) == 0) made = build_finish(&to);
     build_end(&to);
     return made;
 }

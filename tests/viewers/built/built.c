@@ -41,10 +41,11 @@ static void places(mvt_builder *to) {
 int main(void) {
     mvt_builder builder = {0};
     mvt_bytes tile;
+    mvt_rows_fault fault;
     water(&builder);
     roads(&builder);
     places(&builder);
-    if (mvt_builder_finish(&builder, &tile) != MVT_OK) return 1;
+    if (mvt_builder_finish(&builder, &tile, &fault) != MVT_OK) return 1;
     const int failed = fwrite(tile.data, 1, tile.len, stdout) != tile.len || fflush(stdout) != 0;
     mvt_bytes_free(&tile);
     return failed;

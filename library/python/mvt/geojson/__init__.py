@@ -1,4 +1,4 @@
-"""GeoJSON (RFC 7946) of tiles, and layers of GeoJSON. `python3 -m mvt.geojson` is the command `mvt-geojson`."""
+"""GeoJSON (RFC 7946) of tiles, and layers of GeoJSON."""
 
 from .making import to_geojson
 from .reading import MadeLayer, Vanished, from_geojson

@@ -1,0 +1,88 @@
+package mvt_test
+
+import (
+	"bytes"
+	"fmt"
+	"os"
+	"path/filepath"
+	"testing"
+
+	"huranvi.example/mvt"
+)
+
+// FuzzRead: any bytes have one verdict, and what is read is written and built as the canonical bytes. The environment may name
+// the folder of the example tiles (MVT_TILES), from which `go test -fuzz FuzzRead` begins.
+func FuzzRead(f *testing.F) {
+	paths, _ := filepath.Glob(filepath.Join(os.Getenv("MVT_TILES"), "*.mvt"))
+	for _, path := range paths {
+		tile, err := os.ReadFile(path)
+		if err != nil {
+			f.Fatal(err)
+		}
+		if len(tile) < 1<<16 {
+			f.Add(tile)
+		}
+	}
+	f.Fuzz(func(t *testing.T, input []byte) {
+		verdict := mvt.Judge(input)
+		canonical, err := mvt.Rewrite(input)
+		same(t, "the verdict of Rewrite", fmt.Sprint(err), fmt.Sprint(verdict))
+		tile, err := mvt.Read(input)
+		same(t, "the verdict of Read", fmt.Sprint(err), fmt.Sprint(verdict))
+		if err != nil {
+			return
+		}
+		defer tile.Close()
+		if !bytes.Equal(writtenBytes(t, tile), canonical) {
+			t.Fatal("rows are written as another tile")
+		}
+		if !bytes.Equal(rebuilt(t, tile), canonical) {
+			t.Fatal("another tile is built")
+		}
+	})
+}
+
+func writtenBytes(t *testing.T, tile *mvt.Tile) []byte {
+	t.Helper()
+	written, err := tile.Write()
+	return must(t, err, written)
+}
+
+// rebuilt is the tile built anew from what it says.
+func rebuilt(t *testing.T, tile *mvt.Tile) []byte {
+	t.Helper()
+	builder := mvt.NewBuilder()
+	defer builder.Close()
+	for _, layer := range tile.Layers() {
+		if layer.Version() != 2 {
+			builder.Foreign(layer.Version(), layer.Bytes())
+			continue
+		}
+		builder.Layer(layer.Name(), layer.Extent())
+		for _, feature := range layer.Features() {
+			rebuild(builder, feature)
+		}
+	}
+	made, err := builder.Finish()
+	return must(t, err, made)
+}
+
+func rebuild(builder *mvt.Builder, feature mvt.Feature) {
+	builder.Feature(feature.Kind())
+	if id, has := feature.ID(); has {
+		builder.ID(id)
+	}
+	for _, attribute := range feature.Attributes() {
+		builder.Tag(attribute.Key, attribute.Value)
+	}
+	builder.Integers(feature.Integers()...)
+	for _, part := range feature.Parts() {
+		switch feature.Kind() {
+		case mvt.Lines:
+			builder.Line()
+		case mvt.Polygons:
+			builder.Ring(part.Exterior)
+		}
+		builder.Points(part.Points...)
+	}
+}

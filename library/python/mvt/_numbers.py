@@ -1,0 +1,50 @@
+"""The numbers of `mvt.h` and their names, made of it by `library/layout.py`."""
+
+# A tile has at most so many bytes.
+LIMIT = 67108864
+
+CAUSES = {
+    1: "Truncated",
+    2: "VarintRange",
+    3: "FieldNumber",
+    4: "WireType",
+    5: "WrongType",
+    6: "NumberRange",
+    7: "NotUtf8",
+    8: "NoVersion",
+    10: "NoName",
+    11: "ValueKind",
+    12: "GeomType",
+    13: "OddTags",
+    14: "KeyIndex",
+    15: "ValueIndex",
+    16: "RepeatedKey",
+    17: "Command",
+    18: "Count",
+    19: "Parameters",
+    20: "ZeroSegment",
+    21: "CoordinateRange",
+    22: "FirstRing",
+    23: "EndsEarly",
+    24: "RepeatedName",
+    25: "TooLarge",
+    26: "ParameterRange",
+}
+
+NOTES = {
+    1: "NoLayers",
+    2: "Foreign",
+    3: "NoFeatures",
+    4: "RepeatedId",
+    5: "FlatRing",
+    6: "ClosedTwice",
+}
+
+FINDINGS = {
+    1: "ZeroExtent",
+    2: "NoGeometry",
+    3: "UnknownGeometry",
+    4: "FarPoint",
+    5: "LargeId",
+    6: "LargeNumber",
+}

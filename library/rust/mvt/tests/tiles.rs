@@ -1,0 +1,556 @@
+//! Each example tile, whole or broken, has what the program `mvt` says of it. The environment names the program (MVT) and
+//! the folder of the tiles (MVT_TILES).
+
+use mvt::{Builder, Error, Finding, Kind, Note, Point, Value};
+use std::collections::HashSet;
+use std::ffi::OsStr;
+use std::path::PathBuf;
+use std::process::{Command, Output, Stdio};
+use std::{env, fs, io, str, thread};
+
+fn tiles() -> Vec<(String, Vec<u8>)> {
+    let folder = env::var("MVT_TILES").expect("MVT_TILES names the folder of the example tiles");
+    let mut paths: Vec<PathBuf> = fs::read_dir(folder)
+        .unwrap()
+        .map(|entry| entry.unwrap().path())
+        .filter(|path| path.extension() == Some(OsStr::new("mvt")))
+        .collect();
+    paths.sort();
+    assert!(paths.len() > 30, "the example tiles, broken ones included");
+    paths
+        .into_iter()
+        .map(|path| (path.display().to_string(), fs::read(path).unwrap()))
+        .collect()
+}
+
+/// What the program says of a file.
+fn told(words: &[&str], path: &str) -> Output {
+    let program = env::var("MVT").expect("MVT names the program");
+    let input = Stdio::from(fs::File::open(path).unwrap());
+    Command::new(program)
+        .args(words)
+        .stdin(input)
+        .output()
+        .unwrap()
+}
+
+#[test]
+fn each_tile_is_as_the_program_has_it() {
+    for (path, bytes) in tiles() {
+        let check = told(&["check"], &path);
+        match mvt::judge(&bytes) {
+            Ok(()) => good(&path, &bytes, &check),
+            Err(error) => refused(&path, &bytes, &check, &error),
+        }
+    }
+}
+
+fn good(path: &str, bytes: &[u8], check: &Output) {
+    assert_eq!(check.status.code(), Some(0), "{path}");
+    assert_eq!(
+        mvt::report(bytes).unwrap().as_bytes(),
+        check.stdout,
+        "{path}"
+    );
+    let lint = told(&["lint"], path).stdout;
+    assert_eq!(mvt::lint(bytes).unwrap().as_bytes(), lint, "{path}");
+    let survey = mvt::survey(bytes).unwrap();
+    let canonical = if survey.is_canonical { "yes" } else { "no" };
+    let (layers, features) = (survey.layers, survey.features);
+    let first = format!("ok layers {layers} features {features} canonical {canonical}");
+    let lines: Vec<_> = str::from_utf8(&check.stdout).unwrap().lines().collect();
+    assert_eq!(
+        (lines[0], lines.len() - 1),
+        (first.as_str(), survey.notes.len()),
+        "{path}"
+    );
+    let found = mvt::lint_rows(bytes).unwrap();
+    assert_eq!(
+        found.len(),
+        lint.split(|byte| *byte == b'\n').count() - 1,
+        "{path}"
+    );
+    let json = mvt::to_json(bytes).unwrap() + "\n";
+    assert_eq!(json.as_bytes(), told(&["show"], path).stdout, "{path}");
+    let svg = mvt::to_svg(bytes).unwrap() + "\n";
+    assert_eq!(svg.as_bytes(), told(&["draw"], path).stdout, "{path}");
+    let canonical = told(&["rewrite"], path).stdout;
+    assert_eq!(*mvt::rewrite(bytes).unwrap(), canonical, "{path}");
+    let tile = mvt::read(bytes).unwrap();
+    assert_eq!(*mvt::write(&tile).unwrap(), canonical, "{path}");
+    let mut decoder = mvt::Decoder::new().unwrap();
+    for piece in bytes.chunks(7) {
+        decoder.feed(piece).unwrap();
+    }
+    assert_eq!(
+        *mvt::write(&decoder.finish().unwrap()).unwrap(),
+        canonical,
+        "{path}"
+    );
+    for layer in tile.layers().filter(|layer| layer.version() == 2) {
+        let alone = mvt::read_layer(bytes, layer.name()).unwrap();
+        assert_eq!(
+            format!("{:?}", alone.layers().next().unwrap()),
+            format!("{layer:?}"),
+            "{path}"
+        );
+        let extracted = mvt::extract(bytes, &[layer.name()]).unwrap();
+        assert_eq!(extracted, mvt::write(&alone).unwrap(), "{path}");
+        let words = ["extract", layer.name()];
+        assert_eq!(*extracted, told(&words, path).stdout, "{path}");
+    }
+}
+
+/// What is said of a fault, and its bytes, are lines of what the program explains.
+fn explained(path: &str, fault: &mvt::Refused) {
+    let out = told(&["explain"], path).stdout;
+    let lines: Vec<_> = str::from_utf8(&out).unwrap().lines().collect();
+    let bytes = fault.bytes.as_ref().unwrap();
+    let place = match bytes.end - bytes.start {
+        0 => format!("before byte {}", bytes.start),
+        1 => format!("byte {}", bytes.start),
+        _ => format!("bytes {} to {}", bytes.start, bytes.end - 1),
+    };
+    let is_place = |line: &&str| line.split(", ").next() == Some(&place);
+    assert!(lines.iter().any(is_place), "{path}: {place}: {lines:?}");
+    let said = fault.explanation.as_str();
+    assert!(lines.contains(&said), "{path}: {said}: {lines:?}");
+}
+
+fn refused(path: &str, bytes: &[u8], check: &Output, error: &Error) {
+    assert_eq!(check.status.code(), Some(1), "{path}");
+    let line = str::from_utf8(&check.stderr).unwrap().trim_end();
+    match error {
+        Error::Refused(fault) => {
+            assert_eq!(fault.to_string(), line, "{path}");
+            assert_eq!(error.to_string(), format!("{line}: {}", fault.explanation));
+            explained(path, fault);
+        }
+        other => panic!("{path}: {other}"),
+    }
+    for other in [
+        mvt::read(bytes).map(drop),
+        mvt::rewrite(bytes).map(drop),
+        mvt::to_json(bytes).map(drop),
+        mvt::survey(bytes).map(drop),
+        mvt::lint_rows(bytes).map(drop),
+        mvt::extract(bytes, &[]).map(drop),
+    ] {
+        assert_eq!(other.unwrap_err(), *error, "{path}");
+    }
+    let mut decoder = mvt::Decoder::new().unwrap();
+    let told = io::copy(&mut &bytes[..], &mut decoder).map_err(|error| error.to_string());
+    let last = decoder.finish().unwrap_err().to_string();
+    assert!(last.starts_with(&format!("{line}: ")), "{path}: {last}");
+    assert!(told.is_ok() || told == Err(last), "{path}");
+}
+
+/// A tile of three layers: a feature with each kind of value, a ring and integers, and bytes of version 1.
+fn made() -> mvt::Bytes {
+    let mut builder = Builder::new();
+    builder.layer("places", 512).feature(Kind::Points).id(7);
+    builder.tag("name", "Mill Pond").tag("depth", 3.5);
+    builder
+        .tag("deep", true)
+        .tag("n", 5)
+        .tag("i", Value::Int(-5));
+    builder.tag("f", 0.5_f32).tag("s", -1);
+    builder.points(&[Point::new(25, 17), Point::new(-1, 2)]);
+    builder.layer("water", 4096);
+    builder.feature(Kind::Polygons).ring(true);
+    builder.points(&[Point::new(0, 0), Point::new(10, 0), Point::new(0, 10)]);
+    builder.feature(Kind::Unknown).integers(&[7, 9]);
+    builder.foreign(1, &[0x78, 0x01]);
+    builder.finish().unwrap()
+}
+
+#[test]
+fn layers_and_attributes() {
+    let bytes = made();
+    let tile = mvt::read(&bytes).unwrap();
+    let told = tile.layers();
+    let names: Vec<_> = told
+        .map(|layer| (layer.version(), layer.name(), layer.extent()))
+        .collect();
+    assert_eq!(names, [(2, "places", 512), (2, "water", 4096), (1, "", 0)]);
+    assert_eq!(tile.layers().next_back().unwrap().bytes(), [0x78, 0x01]);
+    let place = tile.layer("places").unwrap().features().next().unwrap();
+    assert_eq!((place.id(), place.kind()), (Some(7), Kind::Points));
+    let wanted = [
+        ("name", Value::Text("Mill Pond")),
+        ("depth", Value::Double(3.5)),
+        ("deep", Value::Bool(true)),
+        ("n", Value::Uint(5)),
+        ("i", Value::Int(-5)),
+        ("f", Value::Float(0.5)),
+        ("s", Value::Sint(-1)),
+    ];
+    assert_eq!(place.attributes().collect::<Vec<_>>(), wanted);
+    assert_eq!(place.attribute("n"), Some(Value::Uint(5)));
+    assert_eq!(place.attribute("none"), None);
+    assert_eq!(mvt::write(&tile).unwrap(), bytes);
+}
+
+#[test]
+fn geometries() {
+    let tile = mvt::read(&made()).unwrap();
+    let place = tile.layer("places").unwrap().features().next().unwrap();
+    let points = place.parts().next().unwrap().points;
+    assert_eq!(points, [Point::new(25, 17), Point::new(-1, 2)]);
+    let water: Vec<_> = tile.layer("water").unwrap().features().collect();
+    assert!(water[0].parts().next().unwrap().is_exterior);
+    assert_eq!(water[1].kind(), Kind::Unknown);
+    assert_eq!(water[1].integers(), [7, 9]);
+}
+
+/// Each language's builder makes the same bytes of values of all kinds, and what was read is what is built.
+#[test]
+fn each_kind_of_value() {
+    let path = PathBuf::from(env::var("MVT_TILES").unwrap()).join("kinds.mvt");
+    let wanted = fs::read(path).unwrap();
+    let mut builder = Builder::new();
+    builder.layer("a", 4096).feature(Kind::Points).point(25, 17);
+    builder.tag("s", "x").tag("f", 2.5_f32).tag("d", 3.5);
+    builder.tag("i", Value::Int(-5)).tag("p", Value::Int(5));
+    builder.tag("u", 5).tag("n", -5);
+    builder.tag("z", Value::Sint(5)).tag("b", true);
+    assert_eq!(*builder.finish().unwrap(), wanted);
+    let tile = mvt::read(&wanted).unwrap();
+    builder.layer("a", 4096).feature(Kind::Points).point(25, 17);
+    let feature = tile.layer("a").unwrap().features().next().unwrap();
+    for (key, value) in feature.attributes() {
+        builder.tag(key, value);
+    }
+    assert_eq!(*builder.finish().unwrap(), wanted);
+}
+
+#[test]
+fn whole_numbers_of_each_type() {
+    let small = [Value::from(-1_i8), Value::from(-1_i16), Value::from(-1_i32)];
+    let large = [Value::from(-1_i64), Value::from(-1_isize)];
+    assert!(small.iter().chain(&large).all(|it| *it == Value::Sint(-1)));
+    let small = [Value::from(7_u8), Value::from(7_u16), Value::from(7_u32)];
+    let large = [Value::from(7_u64), Value::from(7_usize), Value::from(7_i8)];
+    assert!(small.iter().chain(&large).all(|it| *it == Value::Uint(7)));
+    assert_eq!(Value::from(i64::MIN), Value::Sint(i64::MIN));
+    assert_eq!(Value::from(u64::MAX), Value::Uint(u64::MAX));
+}
+
+#[test]
+fn texts_that_are_lent_or_owned() {
+    let owned = String::from("x");
+    let mut builder = Builder::new();
+    builder.layer("a", 4096).feature(Kind::Points).point(1, 1);
+    builder.tag("lent", &owned).tag("str", owned.as_str());
+    builder.tag("boxed", owned.clone().into_boxed_str());
+    builder.tag("cow", String::from_utf8_lossy(b"x"));
+    builder
+        .tag("value", Value::from(&owned))
+        .tag("owned", owned);
+    let tile = mvt::read(&builder.finish().unwrap()).unwrap();
+    let layer = tile.layer("a").unwrap();
+    assert_eq!(layer.values().collect::<Vec<_>>(), [Value::Text("x")]);
+    assert_eq!(layer.keys().len(), 6);
+}
+
+#[test]
+fn lists_from_both_ends() {
+    let tile = mvt::read(&made()).unwrap();
+    let mut versions: Vec<_> = tile.layers().rev().map(|layer| layer.version()).collect();
+    assert_eq!(versions, [1, 2, 2]);
+    versions.clear();
+    for layer in &tile {
+        for feature in &layer {
+            versions.push(feature.kind() as u32);
+        }
+    }
+    assert_eq!(versions, [1, 3, 0]);
+    let water = tile.layer("water").unwrap();
+    assert_eq!(water.into_iter().next_back().unwrap().integers(), [7, 9]);
+    let place = tile.layer("places").unwrap().features().next_back();
+    let keys = place.unwrap().attributes().rev().map(|(key, _)| key);
+    assert_eq!(
+        keys.collect::<Vec<_>>(),
+        ["s", "f", "i", "n", "deep", "depth", "name"]
+    );
+    assert!(place.unwrap().parts().rev().eq(place.unwrap().parts()));
+}
+
+/// A tile of a feature with a number, and the keys and values that no feature uses.
+fn numbered(number: f64, unused: &str) -> mvt::Tile {
+    let mut builder = Builder::new();
+    builder.layer("a", 4096);
+    let (key, value) = (builder.key("k").unwrap(), builder.value(number).unwrap());
+    builder.key(unused).unwrap();
+    builder.feature(Kind::Points).tag_at(key, value);
+    builder.points(&[(25, 17).into()]);
+    mvt::read(&builder.finish().unwrap()).unwrap()
+}
+
+#[test]
+fn tiles_that_are_equal() {
+    assert_eq!(numbered(f64::NAN, "x"), numbered(f64::NAN, "y"));
+    assert_ne!(numbered(0.0, "x"), numbered(-0.0, "x"));
+    assert_ne!(numbered(1.0, "x"), mvt::read(&made()).unwrap());
+    let tile = mvt::read(&made()).unwrap();
+    let twin = tile.clone();
+    assert_eq!(tile.layer("places"), twin.layer("places"));
+    assert_ne!(tile.layer("places"), twin.layer("water"));
+    drop(tile);
+    assert_eq!(mvt::write(&twin).unwrap(), made());
+    // The layer `a` with the point (25, 17), and the same with a key that no feature uses.
+    let bare = b"\x1a\x11\x78\x02\x0a\x01a\x12\x07\x18\x01\x22\x03\x09\x32\x22\x28\x80\x20";
+    let keyed =
+        b"\x1a\x14\x78\x02\x0a\x01a\x12\x07\x18\x01\x22\x03\x09\x32\x22\x1a\x01k\x28\x80\x20";
+    assert_eq!(mvt::read(bare).unwrap(), mvt::read(keyed).unwrap());
+}
+
+#[test]
+fn rows_made_elsewhere() {
+    let text = |start, len| mvt::Span { start, len };
+    let rows = mvt::Rows {
+        layers: &[mvt::LayerRow {
+            version: 2,
+            extent: 4096,
+            name: text(0, 1),
+            features: text(0, 1),
+            keys: text(0, 0),
+            values: text(0, 0),
+            bytes: text(0, 0),
+        }],
+        features: &[mvt::FeatureRow {
+            id: 7,
+            has_id: 1,
+            kind: Kind::Points as u32,
+            tags: text(0, 0),
+            parts: text(0, 1),
+            integers: text(0, 0),
+        }],
+        parts: &[mvt::PartRow {
+            exterior: 0,
+            points: text(0, 1),
+        }],
+        points: &[Point::new(25, 17)],
+        texts: b"a",
+        ..mvt::Rows::default()
+    };
+    assert_eq!(rows.judge(), Ok(()));
+    let tile = mvt::read(&rows.write().unwrap()).unwrap();
+    let layer = tile.layer("a").unwrap();
+    let feature = layer.features().next().unwrap();
+    assert_eq!(feature.id(), Some(7));
+    assert_eq!(feature.parts().next().unwrap().points, [Point::new(25, 17)]);
+    assert_eq!(mvt::Rows::of(&tile).write(), mvt::write(&tile));
+    let without = mvt::Rows {
+        points: &[],
+        ..rows
+    };
+    match without.write() {
+        Err(Error::NoTile(fault)) => {
+            assert_eq!((fault.layer, fault.feature), (0, Some(0)));
+            assert_eq!(without.judge(), Err(Error::NoTile(fault)));
+        }
+        other => panic!("{other:?}"),
+    }
+}
+
+#[test]
+fn points_as_keys() {
+    let points: HashSet<Point> = [(1, 2), (3, 4), (1, 2)].map(Point::from).into();
+    assert_eq!(points.len(), 2);
+}
+
+#[test]
+fn what_looks_compressed_is_said() {
+    let told = mvt::read(&[0x1f, 0x8b, 8, 0]).unwrap_err().to_string();
+    assert!(told.contains("gzip") && !told.contains('\n'), "{told}");
+}
+
+#[test]
+fn keys_and_values_by_their_indices() {
+    let mut builder = Builder::new();
+    assert_eq!(builder.key("early"), Err(Error::OutOfTurn));
+    builder.finish().unwrap_err();
+    builder.layer("a", 4096);
+    let keys = ["one", "two", "one"].map(|key| builder.key(key).unwrap());
+    assert_eq!(keys, [0, 1, 0]);
+    assert_eq!(builder.value(true), Ok(0));
+    builder.feature(Kind::Lines).tag_at(1, 0).line();
+    builder.point(1, 2).point(3, 4);
+    let tile = mvt::read(&builder.finish().unwrap()).unwrap();
+    let layer = tile.layers().next().unwrap();
+    assert_eq!(layer.keys().collect::<Vec<_>>(), ["two"]);
+    assert_eq!(layer.values().collect::<Vec<_>>(), [Value::Bool(true)]);
+    assert_eq!(layer.features().next().unwrap().tags(), [0, 0]);
+}
+
+#[test]
+fn what_goes_wrong_is_told() {
+    let mut builder = Builder::new();
+    builder
+        .layer("a", 4096)
+        .feature(Kind::Lines)
+        .line()
+        .point(1, 1);
+    let told = builder.finish().unwrap_err();
+    match told {
+        Error::NoTile(fault) => {
+            assert_eq!((fault.layer, fault.feature, fault.cause), (0, Some(0), 17))
+        }
+        ref other => panic!("{other}"),
+    }
+    assert!(
+        told.to_string().starts_with("layer 0 feature 0: "),
+        "{told}"
+    );
+    builder.point(1, 1);
+    assert_eq!(builder.finish(), Err(Error::OutOfTurn));
+    assert_eq!(builder.layer("a", 1).key("k"), Ok(0));
+    let empty = [0x1a, 7, 0x78, 2, 0x0a, 1, b'a', 0x28, 1];
+    assert_eq!(*builder.finish().unwrap(), empty);
+    assert_eq!(
+        mvt::extract(&empty, &["a", "b", "c"]),
+        Err(Error::NoLayer("b".into()))
+    );
+    assert_eq!(
+        mvt::read_layer(&empty, "b").unwrap_err(),
+        Error::NoLayer("b".into())
+    );
+    assert_eq!(mvt::read_within(&empty, 3).unwrap_err(), Error::OutOfMemory);
+    assert_eq!(Error::OutOfMemory.to_string(), "out of memory");
+}
+
+#[test]
+fn all_can_go_to_other_threads() {
+    fn can<T: Send + Sync>() {}
+    can::<mvt::Tile>();
+    can::<mvt::Layer>();
+    can::<mvt::Feature>();
+    can::<mvt::Bytes>();
+    can::<mvt::Decoder>();
+    can::<mvt::Builder>();
+    can::<mvt::Error>();
+}
+
+#[test]
+fn a_decoder_knows_what_looks_compressed() {
+    let mut decoder = mvt::Decoder::new().unwrap();
+    let told = decoder.feed(&[0x1f, 0x8b, 8, 0]);
+    match told.and(decoder.finish().map(drop)) {
+        Err(Error::Refused(fault)) => {
+            assert!(fault.explanation.contains("gzip"), "{fault:?}");
+            assert_eq!(fault.bytes, None);
+        }
+        other => panic!("{other:?}"),
+    }
+}
+
+/// Tiles with changed bytes, read by several threads. MVT_CHANGED says how many there are.
+#[test]
+fn changed_tiles_from_several_threads() {
+    let count: u64 = env::var("MVT_CHANGED").map_or(1_000, |count| count.parse().unwrap());
+    let tiles: Vec<_> = tiles()
+        .into_iter()
+        .filter(|(_, tile)| !tile.is_empty() && tile.len() < 100_000)
+        .collect();
+    thread::scope(|scope| {
+        for first in 0..4 {
+            let tiles = &tiles;
+            scope.spawn(move || {
+                for number in (first..count).step_by(4) {
+                    changed(&tiles[number as usize % tiles.len()].1, number);
+                }
+            });
+        }
+    });
+}
+
+fn changed(tile: &[u8], number: u64) {
+    let mut bytes = tile.to_vec();
+    let chance = number.wrapping_mul(0x9e37_79b9_7f4a_7c15);
+    let at = (chance >> 16) as usize % bytes.len();
+    bytes[at] ^= (chance >> 8) as u8;
+    if let Ok(tile) = mvt::read(&bytes) {
+        let shown = format!("{tile:?}");
+        let canonical = mvt::write(&tile).unwrap();
+        assert_eq!(format!("{:?}", mvt::read(&canonical).unwrap()), shown);
+        assert_eq!(canonical, mvt::rewrite(&bytes).unwrap());
+    } else {
+        assert!(matches!(mvt::judge(&bytes), Err(Error::Refused(_))));
+    }
+}
+
+#[test]
+fn notes_and_findings_are_values() {
+    let mut builder = Builder::new();
+    builder.foreign(1, &[0x78, 1]).layer("a", 0);
+    builder
+        .feature(Kind::Unknown)
+        .feature(Kind::Points)
+        .id(7)
+        .tag("n", u64::MAX)
+        .point(1, 1);
+    builder
+        .feature(Kind::Points)
+        .id(7)
+        .point(-40000, 1)
+        .layer("b", 4096);
+    builder
+        .feature(Kind::Points)
+        .id(1 << 53)
+        .point(40000, 1)
+        .layer("c", 4096);
+    let tile = builder.finish().unwrap();
+    let told = mvt::survey(&tile).unwrap();
+    assert_eq!(
+        (told.layers, told.features, told.is_canonical),
+        (4, 4, true)
+    );
+    let notes = [
+        Note::Foreign {
+            layer: 0,
+            version: 1,
+        },
+        Note::RepeatedId {
+            layer: 1,
+            feature: 2,
+            earlier: 1,
+        },
+        Note::NoFeatures { layer: 3 },
+    ];
+    assert_eq!(told.notes, notes);
+    let position = Point::new(40000, 1);
+    let findings = [
+        Finding::ZeroExtent { layer: 1 },
+        Finding::NoGeometry {
+            layer: 1,
+            feature: 0,
+        },
+        Finding::LargeNumber {
+            layer: 1,
+            feature: 1,
+            attribute: 0,
+        },
+        Finding::FarPoint {
+            layer: 2,
+            feature: 0,
+            position,
+        },
+        Finding::LargeId {
+            layer: 2,
+            feature: 0,
+        },
+    ];
+    assert_eq!(mvt::lint_rows(&tile).unwrap(), findings);
+    assert_eq!(notes[2].to_string(), "A layer has no feature.");
+    assert!(findings[4]
+        .to_string()
+        .starts_with("An id is beyond 2^53 - 1."));
+    let Error::Refused(fault) = mvt::survey(&[0]).unwrap_err() else {
+        panic!("a broken tile is surveyed");
+    };
+    assert_eq!(
+        (fault.cause, fault.name.as_str()),
+        (mvt::cause::FIELD_NUMBER, "FieldNumber")
+    );
+}

@@ -1,0 +1,145 @@
+/* Calls mvt_survey and mvt_lint_rows on each file that is named: their rows say what the lines of mvt_report and mvt_lint
+ * say, and where a tile is refused they tell mvt_judge's fault and touch nothing else. Prints nothing where all is well. */
+#include "mvt.h"
+
+#include <inttypes.h>
+#include <stdio.h>
+#include <stdlib.h>
+#include <string.h>
+
+static void require(int holds, const char *what) {
+    if (holds) return;
+    fprintf(stderr, "broken: %s\n", what);
+    exit(1);
+}
+
+/* Lines that are made of rows. */
+typedef struct {
+    char *text;
+    size_t len, room;
+} lines;
+
+#define ADD(to, ...)                                                                       \
+    do {                                                                                   \
+        const int more = snprintf(NULL, 0, __VA_ARGS__);                                   \
+        while ((to)->room - (to)->len <= (size_t)more)                                     \
+            (to)->text = realloc((to)->text, (to)->room = 2 * (to)->room + 256);           \
+        (to)->len += (size_t)snprintf((to)->text + (to)->len, (to)->room - (to)->len, __VA_ARGS__); \
+    } while (0)
+
+static void add_note(lines *to, const mvt_note_row *row) {
+    const uint64_t l = row->layer, f = row->feature;
+    switch (row->kind) {
+    case MVT_NOTE_NO_LAYERS: ADD(to, "note NoLayers\n"); break;
+    case MVT_NOTE_FOREIGN: ADD(to, "note Foreign layer %" PRIu64 " version %" PRIu32 "\n", l, row->version); break;
+    case MVT_NOTE_NO_FEATURES: ADD(to, "note NoFeatures layer %" PRIu64 "\n", l); break;
+    case MVT_NOTE_REPEATED_ID:
+        ADD(to, "note RepeatedId layer %" PRIu64 " feature %" PRIu64 " earlier %" PRIu64 "\n", l, f, row->earlier);
+        break;
+    case MVT_NOTE_FLAT_RING:
+        ADD(to, "note FlatRing layer %" PRIu64 " feature %" PRIu64 " ring %" PRIu64 "\n", l, f, row->ring);
+        break;
+    default:
+        require(row->kind == MVT_NOTE_CLOSED_TWICE, "the kind of a note");
+        ADD(to, "note ClosedTwice layer %" PRIu64 " feature %" PRIu64 " ring %" PRIu64 "\n", l, f, row->ring);
+    }
+}
+
+static void add_finding(lines *to, const mvt_finding_row *row) {
+    static const char *const names[] = {"", "ZeroExtent", "NoGeometry", "UnknownGeometry", "FarPoint", "LargeId", "LargeNumber"};
+    require(row->kind >= MVT_FINDING_ZERO_EXTENT && row->kind <= MVT_FINDING_LARGE_NUMBER, "the kind of a finding");
+    require(row->has_feature == (row->kind != MVT_FINDING_ZERO_EXTENT), "whether a finding is of a feature");
+    ADD(to, "lint %s layer %" PRIu64, names[row->kind], row->layer);
+    if (row->has_feature) ADD(to, " feature %" PRIu64, row->feature);
+    if (row->kind == MVT_FINDING_FAR_POINT) ADD(to, " position %" PRId32 " %" PRId32, row->x, row->y);
+    if (row->kind == MVT_FINDING_LARGE_NUMBER) ADD(to, " attribute %" PRIu64, row->attribute);
+    ADD(to, "\n");
+}
+
+static void compare(lines *made, mvt_bytes *told, const char *what) {
+    require(made->len == told->len && (told->len == 0 || memcmp(made->text, told->data, told->len) == 0), what);
+    free(made->text);
+    mvt_bytes_free(told);
+}
+
+static void accepted(const uint8_t *bytes, size_t len) {
+    mvt_summary summary;
+    mvt_findings findings;
+    mvt_bytes told;
+    mvt_fault fault;
+    lines notes = {0}, found = {0};
+    require(mvt_survey(bytes, len, &summary, &fault) == MVT_OK && summary.is_canonical <= 1, "a survey");
+    ADD(&notes, "ok layers %" PRIu64 " features %" PRIu64 " canonical %s\n", summary.layers, summary.features,
+        summary.is_canonical ? "yes" : "no");
+    for (size_t i = 0; i < summary.note_count; ++i) add_note(&notes, &summary.notes[i]);
+    require(mvt_report(bytes, len, &told, &fault) == MVT_OK, "a report");
+    compare(&notes, &told, "rows of notes and their lines");
+    require(mvt_lint_rows(bytes, len, &findings, &fault) == MVT_OK, "rows of findings");
+    for (size_t i = 0; i < findings.count; ++i) add_finding(&found, &findings.rows[i]);
+    require(mvt_lint(bytes, len, &told, &fault) == MVT_OK, "lines of findings");
+    compare(&found, &told, "rows of findings and their lines");
+    mvt_summary_free(&summary);
+    mvt_findings_free(&findings);
+    require(summary.notes == NULL && summary.layers == 0 && findings.rows == NULL, "what was given back is still there");
+    mvt_summary_free(&summary);
+    mvt_findings_free(&findings);
+}
+
+static void refused(const uint8_t *bytes, size_t len, const mvt_fault *first) {
+    mvt_summary summary, no_summary;
+    mvt_findings findings, no_findings;
+    mvt_fault fault;
+    memset(&no_summary, 0x5a, sizeof summary), summary = no_summary;
+    memset(&no_findings, 0x5a, sizeof findings), findings = no_findings;
+    for (int i = 0; i < 2; ++i) {
+        memset(&fault, 0, sizeof fault);
+        require((i == 0 ? mvt_survey(bytes, len, &summary, &fault) : mvt_lint_rows(bytes, len, &findings, &fault)) == MVT_REFUSED,
+                "a tile that is refused");
+        require(fault.layer == first->layer && fault.feature == first->feature && fault.at == first->at &&
+                    fault.cause == first->cause, "its fault");
+    }
+    require(memcmp(&summary, &no_summary, sizeof summary) == 0 && memcmp(&findings, &no_findings, sizeof findings) == 0,
+            "an output that isn't due is touched");
+}
+
+static void look(const char *path) {
+    FILE *file = fopen(path, "rb");
+    require(file != NULL && fseek(file, 0, SEEK_END) == 0, path);
+    const size_t len = (size_t)ftell(file);
+    rewind(file);
+    uint8_t *bytes = malloc(len + 1);
+    require(fread(bytes, 1, len, file) == len, path);
+    fclose(file);
+    mvt_fault fault;
+    if (mvt_judge(bytes, len, &fault) == MVT_OK) accepted(bytes, len);
+    else refused(bytes, len, &fault);
+    free(bytes);
+}
+
+/* What has a number has a text, and what has none has another. */
+static void texts(void) {
+    const char *(*const calls[])(uint32_t) = {mvt_cause_text, mvt_note_text, mvt_finding_text};
+    const uint32_t last[] = {MVT_CAUSE_PARAMETER_RANGE, MVT_NOTE_CLOSED_TWICE, MVT_FINDING_LARGE_NUMBER};
+    for (int of = 0; of < 3; ++of)
+        for (uint32_t number = 0; number <= last[of] + 1; ++number) {
+            const char *text = calls[of](number);
+            const int is_known = number != 0 && number <= last[of] && !(of == 0 && number == 9);
+            require((text[strlen(text) - 1] == '.') == is_known, "a text for each number");
+        }
+    const mvt_fault fault = {-1, -1, 0, MVT_CAUSE_ZERO_SEGMENT, {NULL, 0}};
+    require(strcmp(mvt_cause_text(MVT_CAUSE_ZERO_SEGMENT), mvt_explain(NULL, 0, &fault)) == 0, "the text of a cause");
+    require(strcmp(mvt_note_text(MVT_NOTE_FLAT_RING), "A ring's area is 0.") == 0, "the text of a note");
+    require(strncmp(mvt_finding_text(MVT_FINDING_LARGE_ID), "An id is beyond 2^53 - 1. The feature is drawn", 46) == 0, "and of a finding");
+    require(MVT_LIMIT == 1 << 26, "the limit");
+    char version[32];
+    snprintf(version, sizeof version, "%d.%d.%d", MVT_VERSION_MAJOR, MVT_VERSION_MINOR, MVT_VERSION_PATCH);
+    require(strcmp(version, MVT_VERSION) == 0, "the numbers of the version");
+}
+
+int main(int argc, char **argv) {
+    texts();
+    mvt_summary_free(NULL);
+    mvt_findings_free(NULL);
+    for (int i = 1; i < argc; ++i) look(argv[i]);
+    return 0;
+}

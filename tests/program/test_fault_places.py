@@ -1,0 +1,62 @@
+"""Where faults stand, and what the program says of them, as places.py finds it: of the broken tiles, of inputs that are no
+tiles, of changed tiles, and of tiles whose tags and geometry are spelled in pieces."""
+
+import gzip
+import sys
+from collections import Counter
+from pathlib import Path
+
+import places
+import pytest
+
+TOP = Path(__file__).resolve().parents[2]
+TILES = TOP / "fixtures" / "tiles"
+sys.path.insert(0, str(TOP / "tests" / "library"))
+
+from mutate import changed  # noqa: E402
+
+SENTENCES = places.documented()
+CHANGED = list(changed(3000, [(TILES / f"{name}.mvt").read_bytes() for name in ("gdal", "postgis")]))
+IN_PIECES = places.in_many_pieces(1000)
+STEP = 100
+
+
+def failure(run, tile):
+    """Why what is said of a tile is wrong, if it is refused and that is wrong; and the cause."""
+    status, output, told = run("explain", tile=tile)
+    if status == 0:
+        return None, None
+    *lines, rest = output.decode().split("\n")
+    why = f"status {status}" if status != 1 or rest else places.failure(tile, told, lines, SENTENCES)
+    return why, told.rpartition(" ")[2].strip()
+
+
+@pytest.mark.parametrize("path", sorted((TILES / "broken").glob("*.mvt*")), ids=lambda it: it.name)
+def test_broken(run, path):
+    content = path.read_bytes()
+    why, cause = failure(run, gzip.decompress(content) if path.suffix == ".gz" else content)
+    assert cause and not why
+
+
+@pytest.mark.parametrize("name", places.NO_TILES)
+def test_no_tile(run, name):
+    why, cause = failure(run, places.NO_TILES[name])
+    assert cause and not why
+
+
+def are_right(run, tiles):
+    """Each is right, by its place in the list; most are refused."""
+    found = [failure(run, tile) for tile in tiles]
+    assert not {number: why for number, (why, _) in enumerate(found) if why}
+    causes = Counter(cause for _, cause in found if cause)
+    assert len(causes) > 1 and causes.total() > len(tiles) / 4
+
+
+@pytest.mark.parametrize("first", range(0, len(CHANGED), STEP))
+def test_changed(run, first):
+    are_right(run, CHANGED[first : first + STEP])
+
+
+@pytest.mark.parametrize("first", range(0, len(IN_PIECES), STEP))
+def test_in_pieces(run, first):
+    are_right(run, IN_PIECES[first : first + STEP])

@@ -1,0 +1,49 @@
+"""The command `mvt-tile`, which takes a tile out of a store: `python3 -m mvt_tools.tile` is the same."""
+
+import argparse
+import sys
+from typing import Optional, Sequence
+
+from . import _given
+from ._ending import USAGE, Output
+
+COMMAND = "mvt-tile"
+
+
+def _parser() -> argparse.ArgumentParser:
+    words = _given.Words(
+        prog=COMMAND,
+        usage="mvt-tile STORE Z/X/Y [--raw] > tile.mvt",
+        description="Writes a tile of a store, unpacked.",
+        epilog="Status: 0 it is written, 1 it doesn't unpack, 2 the command can't be done as it is, 3 something can't be"
+        " read or written, 4 there is too little memory. The tile isn't judged.",
+    )
+    words.add_argument(
+        "what", nargs="+", metavar="STORE Z/X/Y",
+        help="where the tile is: a folder {z}/{x}/{y}.mvt or .pbf (.gz too), an .mbtiles or .pmtiles file, a .txt file with"
+        " a name on each line, or a server, by the address of its tiles or of its TileJSON; a file with one tile needs no"
+        " place. And its place, with Y counted from the north",
+    )
+    words.add_argument("--raw", action="store_true", help="as it lies, and not unpacked")
+    return words
+
+
+def _work(words: Optional[Sequence[str]]) -> int:
+    given = _parser().parse_intermixed_args(words)
+    what, place = _given.store_and_place(given.what)
+    if what is None:
+        raise _given.GivenError(USAGE, "out of which store? say it before the place")
+    content = _given.stored(what, place, given.raw)
+    output = Output()
+    output.bytes(content if given.raw else _given.plain(content))
+    output.flush()
+    return 0
+
+
+def main(words: Optional[Sequence[str]] = None) -> int:
+    """Runs the command, and answers its status."""
+    return _given.run(COMMAND, lambda: _work(words))
+
+
+if __name__ == "__main__":
+    sys.exit(main())
