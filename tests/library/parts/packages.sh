@@ -47,7 +47,7 @@ versions_of_pages() {
 # pages_read: a page and each of its lines are made for a terminal without a warning.
 pages_read() {
   local page
-  for page in "$out"/made/*.[13]; do [ -z "$(man --warnings -l "$page" 2>&1 >/dev/null)" ] || return 1; done
+  for page in "$out"/manual/*.[13]; do [ -z "$(man --warnings -l "$page" 2>&1 >/dev/null)" ] || return 1; done
 }
 
 # rust_installed, go_installed: the tests of the crate and of the module, which find the installed library by pkg-config.
@@ -165,14 +165,14 @@ from_proxy() (
 
 # complete_line COMMAND WORD..: what the completion of bash offers for a line that ends with these words.
 complete_line() {
-  "$BASH" --norc -c '. "$0/$1.bash"; COMP_WORDS=("$@"); COMP_CWORD=$(($# - 1)); "_${1//-/_}"; echo "${COMPREPLY[*]}"' "$out/made" "$@"
+  "$BASH" --norc -c '. "$0/$1.bash"; COMP_WORDS=("$@"); COMP_CWORD=$(($# - 1)); "_${1//-/_}"; echo "${COMPREPLY[*]}"' "$out/completions" "$@"
 }
 
 # complete_options COMMAND: whether each shell is offered each option that the command's help names.
 complete_options() {
   local option
   for option in $(PYTHONPATH=library/python:tools "$PYTHON" -m "${1/mvt-/mvt_tools.}" --help | grep -oE -- '--[a-z-]+' | sort -u); do
-    complete_line "$1" "$option" | grep -qw -e "$option" && grep -qF -e "$option" "$out/made/_$1" && grep -qF -e "-l ${option#--}" "$out/made/$1.fish" ||
+    complete_line "$1" "$option" | grep -qw -e "$option" && grep -qF -e "$option" "$out/completions/_$1" && grep -qF -e "-l ${option#--}" "$out/completions/$1.fish" ||
       { echo "$option" && return 1; }
   done
 }
@@ -220,8 +220,8 @@ by_hand() (
 check "installed by hand" by_hand
 if there "installed by hand: CMake" cmake; then check "installed by hand: CMake" with_cmake "$out/cmake_by_hand" -DCMAKE_PREFIX_PATH="$out/prefix"; fi
 
-mkdir "$out/made" && cp packaging/completion/* "$out/made"
-check "completion: made" env PYTHONPATH=library/python:tools "$PYTHON" packaging/complete.py "$out/made"
+mkdir "$out/completions" "$out/manual" && cp packaging/completion/* "$out/completions"
+check "completion: made" env PYTHONPATH=library/python:tools "$PYTHON" packaging/complete.py "$out/completions"
 check "completion: commands" [ "$(complete_line mvt "")" = "check explain lint fields show draw rewrite extract help" ]
 check "completion: a command" [ "$(complete_line mvt r)" = rewrite ]
 check "completion: files" [ "$(complete_line mvt check README) $(complete_line mvt explain README)" = "README.md README.md" ]
@@ -233,11 +233,11 @@ check "completion: mvt-audit" [ "$(complete_line mvt-audit --an) $(complete_line
 for command in mvt-audit mvt-geojson mvt-page mvt-tile; do check "completion: all options of $command" complete_options "$command"; done
 for shell in zsh fish; do
   there "completion for $shell" "$shell" || continue
-  for file in "$out/made/"$([ "$shell" = zsh ] && echo '_*' || echo '*.fish'); do check "completion for $shell: $(basename "$file")" "$shell" -n "$file"; done
+  for file in "$out/completions/"$([ "$shell" = zsh ] && echo '_*' || echo '*.fish'); do check "completion for $shell: $(basename "$file")" "$shell" -n "$file"; done
 done
 if there "the desktop's entry" desktop-file-validate; then check "the desktop's entry" desktop-file-validate packaging/desktop/mvt-page.desktop; fi
 if there "manual pages" man pandoc; then
-  check "manual pages: made" env PYTHONPATH=library/python:tools "$PYTHON" packaging/manual.py "$out/made"
+  check "manual pages: made" env PYTHONPATH=library/python:tools "$PYTHON" packaging/manual.py "$out/manual"
   check "manual pages: without a warning" pages_read
 fi
 
