@@ -18,7 +18,7 @@ use Rattle.mvt_geometry.specs.Drawing.{drawn, Draws}
 use Rattle.mvt_geometry.specs.Shape.{kind_of}
 use Rattle.mvt_wire.specs.Field.{varint, bytes, Entry}
 use Rattle.mvt_wire.specs.Spelling.{Plain, plain_of, short_field, short_numbers, spelled, IsFit}
-use Rattle.mvt_wire.specs.Packed.{ArePacked}
+use Rattle.mvt_wire.specs.Packed.{ArePacked, packed, packed_within}
 use Rattle.mvt_wire.specs.Zigzag.{zig}
 use Rattle.mvt_feature.specs.declared.numbers.feature.TheConstants.{ID, TAGS, TYPE, GEOMETRY}
 use Rattle.mvt_feature.specs.declared.numbers.value.TheConstants.{STRING}
@@ -33,7 +33,6 @@ use Rattle.mvt_feature.specs.Values.{value_forms, Means, IsValue, IsValueOf}
 use Rattle.mvt_feature.specs.ValueRules.{kinds, are_one_kind, value_field_rules}
 use Rattle.mvt_feature.proofs.ValueLemmas.{value_from, rules_clean}
 use Rattle.mvt_feature.proofs.FormLemmas.{form_clean}
-use Rattle.mvt_feature.proofs.CopyingLemmas.{packed_none}
 use Rattle.mvt_geometry.proofs.GeometryLaws.{drawn_small}
 use Rattle.mvt_wire.proofs.WireLaws.{packed_function_only, short_lengths_bytes, short_lengths_numbers, short_packed_packed, spelled_parts, spelled_whole_whole}
 
@@ -220,6 +219,10 @@ packed_joined xs k d ns are h =
     let content : one.0.content ≡ bytes d = ap (λ (p : Plain). p.content) one.2 in
     let joined : Joined (one.0 ∷ []) ns = (ns, [], sym (append-nil ns), rw content are, refl) in
     subst (λ ys. Joined ys ns) (sym one.1) joined
+
+packed_none : (packed []).numbers ≡ []
+unfolding packed packed_within
+packed_none = refl
 
 tags_joined : (xs : List Entry) (d tags : List ℕ) → ArePacked d tags → map plain_of xs ≡ packed_tags d → Joined xs tags
 tags_joined xs [] tags are h = rw (none_of xs h) (sym (packed_function_only [] tags are).1 ∙ packed_none)

@@ -11,7 +11,6 @@ mod ListingLemmas
 mod OrFaultLemmas
 mod WritingLemmas
 mod RewritingLemmas
-mod CopyingLemmas
 mod CopyingPartsLemmas
 mod CanonicalLemmas
 mod OrderingLemmas

@@ -1,5 +1,5 @@
 -- A feature whose payload was judged, and what is written of it.
-use Rattle.std.proofs.Common.{◌≡◌, ℕ, ◌<◌, ◌^◌, List, ◌++◌, Option, None, refl, sym, ap, subst, ◌∙◌}
+use Rattle.std.proofs.Common.{◌≡◌, ℕ, ◌<◌, ◌^◌, List, [], ◌∷◌, ◌++◌, Option, None, refl, sym, ap, subst, ◌∙◌}
 use Rattle.std.specs.List.{AllByRecursion}
 use Rattle.mvt_attrs.specs.declared.value.Value.{Value}
 use Rattle.mvt_attrs.specs.declared.used_entries.LayerEntries.{LayerEntries}
@@ -7,16 +7,18 @@ use Rattle.mvt_attrs.specs.TagRules.{tag_fault}
 use Rattle.mvt_attrs.specs.TagPlaces.{tags_in}
 use Rattle.mvt_attrs.specs.Using.{IsUsedBy, used_of}
 use Rattle.mvt_geometry.specs.declared.shape.Geometry.{Geometry}
-use Rattle.mvt_geometry.specs.Drawing.{drawn}
+use Rattle.mvt_geometry.specs.declared.shape.Kind.{Kind}
+use Rattle.mvt_geometry.specs.Drawing.{drawn, Draws}
 use Rattle.mvt_geometry.specs.Shape.{kind_of}
 use Rattle.mvt_geometry.specs.Table.{geometry_fault}
-use Rattle.mvt_wire.specs.Spelling.{spelled}
+use Rattle.mvt_wire.specs.Field.{bytes}
+use Rattle.mvt_wire.specs.Spelling.{short_numbers, spelled}
 use Rattle.mvt_wire.specs.Split.{split}
 use Rattle.mvt_feature.specs.declared.feature.Feature.{Feature}
 use Rattle.mvt_feature.specs.declared.feature_fields.FeatureFields.{FeatureFields}
 use Rattle.mvt_feature.specs.declared.numbers.feature.TheConstants.{GEOMETRY}
 use Rattle.mvt_feature.specs.declared.scratch.Scratch.{Scratch}
-use Rattle.mvt_feature.specs.Canonical.{id_fields, tags_fields, drawing_fields}
+use Rattle.mvt_feature.specs.Canonical.{plain, id_fields, tags_fields, type_fields, drawing_fields}
 use Rattle.mvt_feature.specs.FeatureRules.{joined}
 use Rattle.mvt_feature.specs.Inner.{AreOf, IsJudged}
 use Rattle.mvt_feature.specs.Rewriting.{IsRewritten}
@@ -74,3 +76,17 @@ fields_written f old new before after id tags geometry used id_is geometry_is ta
       ∙ ap (λ g. before ++ spelled (id_fields f.id ++ (tags_fields tags ++ drawing_fields (kind_of g) (drawn g)))) (sym geometry_is)
       ∙ ap (λ t. before ++ spelled (id_fields f.id ++ (tags_fields t ++ drawing_fields (kind_of f.geometry) (drawn f.geometry)))) tags_are,
 )
+
+-- the same of a feature whose integers are copied
+pub packed_written : (f : Feature) (old new : LayerEntries) (before after : List ℕ) (id : Option ℕ) (tags : List ℕ) (kind : Kind)
+    (integers packed : List ℕ)
+    → IsUsedBy f.attributes old new → f.id ≡ id → tags ≡ tags_in (used_of new.keys) (used_of new.values) f.attributes
+    → packed ≡ short_numbers integers → Draws kind integers f.geometry
+    → after ≡ before ++ spelled (id_fields id ++ (tags_fields tags ++ (type_fields kind ++ plain GEOMETRY (bytes packed) ∷ [])))
+    → IsRewritten f old new before after
+packed_written f old new before after id tags kind integers packed used id_is tags_are short draws is =
+    fields_written f old new before after id tags f.geometry used id_is refl tags_are
+    (is
+    ∙ ap (λ b. before ++ spelled (id_fields id ++ (tags_fields tags ++ (type_fields kind ++ plain GEOMETRY (bytes b) ∷ [])))) short
+    ∙ ap (λ k. before ++ spelled (id_fields id ++ (tags_fields tags ++ drawing_fields k integers))) draws.same_kind
+    ∙ ap (λ i. before ++ spelled (id_fields id ++ (tags_fields tags ++ drawing_fields (kind_of f.geometry) i))) draws.spelled)

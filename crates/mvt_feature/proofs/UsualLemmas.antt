@@ -1,6 +1,5 @@
 -- Features whose fields stand once each, in any order, judged in their bytes.
-use Rattle.std.proofs.Common.{◌≡◌, ◌≢◌, ◌⊎◌, inl, inr, ℕ, List, [], ◌∷◌, ◌++◌, Result, Ok, Err, refl, sym, ap, subst, ◌∙◌, append_assoc, append-nil}
-use Rattle.std.specs.List.{flat_map}
+use Rattle.std.proofs.Common.{◌≡◌, ◌≢◌, ◌⊎◌, inl, inr, ℕ, List, [], ◌∷◌, ◌++◌, Result, Ok, Err, refl, sym, ap, subst, ◌∙◌, append_assoc}
 use Rattle.std.specs.Prelude.{IfErr, OnErr}
 use Rattle.std.proofs.lemmas.Bool.{cases_eq, ne_eqb}
 use Rattle.mvt_base.proofs.RuleLemmas.{each_more}
@@ -15,14 +14,14 @@ use Rattle.mvt_geometry.specs.Drawing.{Draws}
 use Rattle.mvt_geometry.specs.Shape.{kind_of}
 use Rattle.mvt_geometry.specs.Visiting.{Part, parts_of, HasDrawn, HasDrawnPacked}
 use Rattle.mvt_wire.specs.Field.{Entry, bytes}
-use Rattle.mvt_wire.specs.Packed.{ArePacked, packed}
+use Rattle.mvt_wire.specs.Packed.{ArePacked}
 use Rattle.mvt_wire.specs.Split.{Whole, split}
 use Rattle.mvt_feature.specs.declared.canonical_feature.Parts.{Parts}
 use Rattle.mvt_feature.specs.declared.feature.Feature.{Feature}
 use Rattle.mvt_feature.specs.declared.numbers.feature.TheConstants.{TAGS, GEOMETRY}
 use Rattle.mvt_feature.specs.Canonical.{plain, id_fields, type_fields}
 use Rattle.mvt_feature.specs.Copying.{packed_tags, parts_fields}
-use Rattle.mvt_feature.specs.FeatureRules.{feature_field_rules, joined, numbers_of}
+use Rattle.mvt_feature.specs.FeatureRules.{feature_field_rules, joined}
 use Rattle.mvt_feature.specs.Features.{feature_forms, IsFeatureOf}
 use Rattle.mvt_feature.specs.Forms.{HaveForms}
 use Rattle.mvt_feature.specs.Listing.{IsListedIn, ListsNumbers}
@@ -92,17 +91,6 @@ usual_lists payload payload_at p order =
           (listed_first payload_at [] xs refl (parts_forms xs p.id p.tags.now p.kind p.integers.now same)
           (λ none. let one = parts_integers xs p.id p.tags.now p.kind p.integers.now same in let both = sym none ∙ one.1 in cc));
     }
-
--- its integers are those of the one field
-pub usual_integers : (payload : List ℕ) (p : Parts) → IsInAnyOrder payload p
-    → (packed p.integers.now).numbers ≡ joined GEOMETRY (split payload).fields
-usual_integers payload p order =
-    let (xs, whole, plain_are) = spelled_whole_whole order.fields order.fit in
-    let is_split = split_function_only payload [] xs (subst (λ b. Whole b xs) (sym order.is) whole) in
-    let (x, one, content) = parts_integers xs p.id p.tags.now p.kind p.integers.now
-    (λ k. ap (only_plain k) plain_are ∙ only_alike order.fields (parts_fields p) order.alike k) in
-    sym (ap (joined GEOMETRY) (sym is_split.0) ∙ ap (flat_map (λ (y : Entry). numbers_of y.content)) one
-    ∙ ap (λ c. numbers_of c ++ []) content ∙ append-nil (packed p.integers.now).numbers)
 
 -- a geometry of known type was told as parts
 told_by : {V : Type 0} (HasParts : V → List Part → List Point → V → Type 0) (HasIntegers : V → List ℕ → V → Type 0)

@@ -4,7 +4,6 @@
 
 mod canonical_feature;
 mod cause;
-mod copied_integers;
 mod drawn_feature;
 mod feature;
 mod feature_fields;
@@ -30,7 +29,7 @@ pub use message_error::MessageError;
 pub use ordered_feature::{may_be_ordered, order_feature};
 pub use reading::{draw_feature, judge_feature, read_feature, read_feature_in};
 pub use rest_faults::{fault_at, rest_fault};
-pub use rewriting::rewrite_feature;
+pub use rewriting::{rewrite_feature, rewrite_usual_feature};
 pub use scratch::Scratch;
 pub use usual::{check_feature, draw_usual_feature};
 pub use validity::{is_valid_feature, validate_feature};

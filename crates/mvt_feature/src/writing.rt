@@ -1,11 +1,13 @@
 //! Values and features in their canonical spelling.
-ghost use Rattle.std.specs.Prelude.{◌≡◌, ◌⊎◌, ◌<◌, ◌++◌, ℕ, length, OnOk, OnErr, IsErrOf};
+ghost use Rattle.std.specs.Prelude.{◌≡◌, ◌⊎◌, ◌<◌, [], ◌∷◌, ◌++◌, ℕ, length, OnOk, OnErr, IsErrOf};
 ghost use Rattle.mvt_base.specs.Related.{Extends};
 ghost use Rattle.mvt_attrs.specs.Pools.{key_pool, value_pool};
 ghost use Rattle.mvt_attrs.specs.Using.{AreToldUpTo, AreUsedUpTo, HasNoneAdded, IsUsedUpAt, used_of};
 ghost use Rattle.mvt_geometry.specs.Valid.{IsValid};
+ghost use Rattle.mvt_wire.specs.Field.{bytes as in_bytes};
 ghost use Rattle.mvt_wire.specs.Spelling.{spelled};
-ghost use Rattle.mvt_feature.specs.Canonical.{value_fields, id_fields, tags_fields, type_fields, drawing_fields, type_number as the_type_number};
+ghost use Rattle.mvt_feature.specs.declared.numbers.feature.TheConstants.{GEOMETRY};
+ghost use Rattle.mvt_feature.specs.Canonical.{plain, value_fields, id_fields, tags_fields, type_fields, drawing_fields, type_number as the_type_number};
 ghost use Rattle.mvt_feature.specs.Rewriting.{IsRewritten};
 
 use crate::feature::Feature;
@@ -115,8 +117,24 @@ pub(crate) fn append_fields(
         ++ spelled (id_fields id ++ (tags_fields tags.now ++ drawing_fields kind integers.now))) }
     ensures left { OnErr result (Extends out.old.items out.new.items) }
 {
+    append_packed(out, id, tags, kind, integers.as_bytes())
+}
+
+/// The same for a geometry of this type, whose integers are packed in these bytes.
+pub(crate) fn append_packed(
+    out: &mut Vec<u8>,
+    id: Option<u64>,
+    tags: &[u32],
+    kind: Kind,
+    integers: &[u8],
+) -> Result<(), AllocError>
+    ensures ok { OnOk result (out.new.items ≡ out.old.items
+        ++ spelled (id_fields id ++ (tags_fields tags.now ++ (type_fields kind
+        ++ plain GEOMETRY (in_bytes integers.now) ∷ [])))) }
+    ensures left { OnErr result (Extends out.old.items out.new.items) }
+{
     append_front(out, id, tags, kind)?;
-    put_field(out, feature::GEOMETRY, &Payload::Len(integers.as_bytes()))
+    put_field(out, feature::GEOMETRY, &Payload::Len(integers))
 }
 
 /// Appends what stands before the integers of a feature: its id, its tags and its type.

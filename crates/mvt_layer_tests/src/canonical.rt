@@ -2,7 +2,7 @@
 use crate::copying::{FEW_VALUES, MANY_VALUES, changed};
 use crate::expect::expect;
 use mvt_feature::FeatureFields;
-use mvt_geometry::{GeometryVisitor, Kind, Point, Ring, draw_geometry};
+use mvt_geometry::{GeometryVisitor, Kind, Point, Ring};
 use mvt_message::*;
 use std::alloc::{AllocError, Global};
 use std::process::Abort;
@@ -16,6 +16,9 @@ struct Told {
     points: Vec<Point>,
     counts: Vec<usize>,
     rings: Vec<Option<(bool, i128, bool)>>,
+    // How many points and parts the features have that ended.
+    points_before: usize,
+    parts_before: usize,
 }
 
 impl Told {
@@ -26,13 +29,9 @@ impl Told {
             points: Vec::new(alloc),
             counts: Vec::new(alloc),
             rings: Vec::new(alloc),
+            points_before: 0,
+            parts_before: 0,
         }
-    }
-
-    fn add(&mut self, fields: &FeatureFields) -> Result<(), AllocError> {
-        self.ids.push(fields.id)?;
-        self.kinds.push(fields.kind)?;
-        Ok(())
     }
 
     fn is(&self, other: &Told) -> bool {
@@ -68,28 +67,21 @@ impl GeometryVisitor for Told {
     }
 }
 
-impl RewriteVisitor for Told {
-    ghost has_features = { λ _ _ _ _. Unit {0} };
+impl FeatureVisitor for Told {
+    ghost has_features = { λ _ _ _. Unit {0} };
 
-    fn visit_rewritten(
-        &mut self,
-        _: Global,
-        fields: &FeatureFields,
-        integers: &[u32],
-        _: &[u8],
-    ) -> Result<(), AllocError> {
-        match draw_geometry(self, fields.kind, integers) {
-            Ok(()) => self.add(fields),
-            Err(_) => Err(AllocError),
-        }
+    fn begin_feature(&mut self) {
+        self.points.truncate(self.points_before);
+        self.counts.truncate(self.parts_before);
+        self.rings.truncate(self.parts_before);
     }
-}
-
-impl CanonicalVisitor for Told {
-    ghost has_read = { λ _ _ _. Unit {0} };
 
     fn end_feature(&mut self, _: Global, known: &FeatureFields) -> Result<(), AllocError> {
-        self.add(known)
+        self.ids.push(known.id)?;
+        self.kinds.push(known.kind)?;
+        self.points_before = self.points.len();
+        self.parts_before = self.counts.len();
+        Ok(())
     }
 }
 

@@ -114,4 +114,4 @@ ordered_payload layer =
 abbrev pub IsKnown : List ℕ → Known → Type 0
 IsKnown payload (Copied layer) = IsCopied payload layer.name.now (copied_payload layer)
 IsKnown payload (Ordered layer) = IsCopied payload layer.name.now (ordered_payload layer)
-IsKnown payload (Written layer) = IsRewrittenAs (λ _ _ _. Unit {0}) payload (Layer layer)
+IsKnown payload (Written layer) = IsRewrittenAs (λ _ _. Unit {0}) payload (Layer layer)

@@ -55,10 +55,10 @@ tail_of uses extent =
     spelled (map key_field (used_of uses.keys)) ++ (spelled (map value_field (used_of uses.values)) ++ spelled (extent_fields extent))
 
 -- a payload is the item that was made canonical, of whose features this visitor was told
-abbrev pub IsRewrittenAs : {V : Type 0} → (V → List Feature → List ℕ → Type 0) → List ℕ → Rewritten V → Type 0
+abbrev pub IsRewrittenAs : {V : Type 0} → (V → List Feature → Type 0) → List ℕ → Rewritten V → Type 0
 IsRewrittenAs WasTold payload (Layer r) =
     (layer : ALayer) × IsItem payload (items.Layer layer) × ValidItem (items.Layer layer) × (r.name.now ≡ layer.name)
-    × WasTold r.visitor layer.features r.writer.features.items
+    × WasTold r.visitor layer.features
     × (canonical_item (items.Layer layer)
     ≡ spelled (head_fields r.name.now) ++ (r.writer.features.items ++ tail_of r.writer.uses r.extent))
 IsRewrittenAs WasTold payload (Foreign version) = IsItem payload (items.Foreign version payload) × ValidItem (items.Foreign version payload)

@@ -1,50 +1,19 @@
 //! A layer whose payload is canonical as it stands (Mapbox Vector Tile Specification 2.1, 4.1).
-ghost use Rattle.std.specs.Prelude.{◌≡◌, ◌≤◌, ◌<◌, ◌^◌, [], ◌∷◌, ◌++◌, List, length, drop, IfOk, IfSome, IsTrue, IsUtf8, OnOk};
+ghost use Rattle.std.specs.Prelude.{◌≡◌, ◌≤◌, ◌<◌, ◌^◌, [], ◌∷◌, ◌++◌, List, length, drop, IfOk, IfSome, IsTrue, IsUtf8};
 ghost use Rattle.mvt_wire.specs.Spelling.{spelled};
-ghost use Rattle.mvt_feature.specs.declared.feature.Feature.{Feature as AFeature};
-ghost use Rattle.mvt_geometry.specs.Shape.{kind_of};
-ghost use Rattle.mvt_geometry.specs.Visiting.{HasDrawn};
 ghost use Rattle.mvt_message.specs.declared.item.Item.{Item};
 ghost use Rattle.mvt_message.specs.CanonicalItems.{extent_fields, head_fields};
 ghost use Rattle.mvt_message.specs.Copying.{IsCanonicalLayer, IsFrameOf, IsInPlace};
 
 use crate::around::{may_end_with_extent, name_at};
+use crate::feature_visitor::FeatureVisitor;
 use crate::layer_copying::{Frame, Seen, bounds_of, end_of, front_of, seen_of};
 use crate::looking::may_begin_in_order;
 use crate::numbers::layer;
 use mvt_base::LIMIT;
-use mvt_feature::{FeatureFields, NotCanonical};
-use mvt_geometry::{GeometryVisitor, Ignore};
+use mvt_feature::NotCanonical;
 use mvt_wire::short_number_at;
-use std::alloc::{AllocError, Global};
-
-/// An object that receives the features of a layer whose fields are canonical as they stand: the
-/// parts of each geometry, and then the feature's end.
-pub trait CanonicalVisitor: GeometryVisitor {
-    // What it has of the items before this one and of these features.
-    ghost has_read: { List Item → Self → List AFeature → Type 0 };
-
-    /// Ends a feature of this id and this type, whose geometry was told.
-    ///
-    /// # Errors
-    ///
-    /// When memory runs out.
-    fn end_feature(&mut self, alloc: Global, known: &FeatureFields) -> Result<(), AllocError>
-        ensures { (items : List Item) (features : List AFeature) (f : AFeature) (start : Self)
-            → has_read items start features
-            → HasDrawn Self.has_parts Self.has_integers start self.old f.geometry
-            → f.id ≡ known.now.id → known.now.kind ≡ kind_of f.geometry
-            → OnOk result (has_read items self.new (features ++ f ∷ [])) };
-}
-
-impl CanonicalVisitor for Ignore {
-    ghost has_read = { λ _ _ _. Unit {0} };
-
-    #[inline(always)]
-    fn end_feature(&mut self, _: Global, _: &FeatureFields) -> Result<(), AllocError> {
-        Ok(())
-    }
-}
+use std::alloc::Global;
 
 /// Judges whether a payload is the canonical one of a layer of version 2, passes its features to a
 /// visitor, and answers its name. Nothing is written.
@@ -52,14 +21,14 @@ impl CanonicalVisitor for Ignore {
 /// # Errors
 ///
 /// If it isn't, or isn't known to be. The visitor may then have received some of its features.
-pub fn visit_canonical<'a, V: CanonicalVisitor>(
+pub fn visit_canonical<'a, V: FeatureVisitor>(
     alloc: Global,
     visitor: &mut V,
     payload: &'a [u8],
 ) -> Result<&'a str, NotCanonical>
     requires { length payload.now ≤ LIMIT }
-    ensures { (items : List Item) → V.has_read items visitor.old [] → IfOk result
-        (λ name. IsCanonicalLayer (V.has_read items visitor.new) payload.now name.now) }
+    ensures { (items : List Item) → V.has_features items visitor.old [] → IfOk result
+        (λ name. IsCanonicalLayer (V.has_features items visitor.new) payload.now name.now) }
 {
     let frame = frame_in_place(alloc, payload)?;
     let (features_at, end) = bounds_of(&frame);

@@ -15,7 +15,7 @@ ghost use Rattle.mvt_message.specs.Around.{IsHead};
 ghost use Rattle.mvt_message.specs.Resuming.{IsKnown, IsPartOf, IsSeen, IsSeenWithin};
 
 use crate::around::{Around, around_from, may_be_whole, whole_of};
-use crate::canonical_layer::CanonicalVisitor;
+use crate::feature_visitor::FeatureVisitor;
 use crate::keys_first::{begins_with_key, keys_first};
 use crate::layer_rewriting::RewrittenLayer;
 use crate::looking::{Counts, counts_from, may_be_put_in_order, may_be_texts};
@@ -201,7 +201,7 @@ pub(crate) struct Reached {
 
 /// Looks at the features of a layer that has this frame. A visitor is told those that are
 /// canonical, and may be told some parts of one more.
-pub(crate) fn seen_of<'a, V: CanonicalVisitor>(
+pub(crate) fn seen_of<'a, V: FeatureVisitor>(
     alloc: Global,
     visitor: &mut V,
     body: &'a [u8],
@@ -209,8 +209,8 @@ pub(crate) fn seen_of<'a, V: CanonicalVisitor>(
 ) -> Result<Seen<'a>, NotCanonical>
     requires small { length body.now ≤ LIMIT }
     requires frame { IsFrameOf body.now frame }
-    ensures seen { (items : List Item) → V.has_read items visitor.old []
-        → IfOk result (IsSeen (V.has_read items visitor.new) body.now frame.entry) }
+    ensures seen { (items : List Item) → V.has_features items visitor.old []
+        → IfOk result (IsSeen (V.has_features items visitor.new) body.now frame.entry) }
     ensures within { IfOk result (IsSeenWithin (length body.now)) }
 {
     let Frame {
@@ -401,7 +401,7 @@ pub(crate) fn end_of_used(number: u32, payloads: &[&[u8]], used: usize, end: usi
 /// Judges how far canonical features stand from an offset on, in a layer with this front and these
 /// keys, and use its entries in their order. A visitor is told them. Where an entry stands twice,
 /// none is judged.
-fn judge_features<V: CanonicalVisitor>(
+fn judge_features<V: FeatureVisitor>(
     alloc: Global,
     visitor: &mut V,
     body: &[u8],
@@ -410,10 +410,10 @@ fn judge_features<V: CanonicalVisitor>(
     keys: &[Text],
 ) -> Result<Reached, NotCanonical>
     requires { start ≤ length body.now }
-    ensures features { (items : List Item) → V.has_read items visitor.old [] → IfOk result
+    ensures features { (items : List Item) → V.has_features items visitor.old [] → IfOk result
         (λ reached. (held : List AValue) → length held ≡ length front.now.values.items
         → AreReady keys.now held (0, 0)
-        → AreFeaturesFrom (λ fs. IsTrue reached.is_whole → V.has_read items visitor.new fs) body.now
+        → AreFeaturesFrom (λ fs. IsTrue reached.is_whole → V.has_features items visitor.new fs) body.now
         start keys.now held reached.at reached.used) }
     ensures within { IfOk result (λ reached. (reached.used.0 ≤ length keys.now)
         × (reached.used.1 ≤ length front.now.values.items) × (reached.at ≤ length body.now)) }
@@ -474,7 +474,7 @@ fn reached_at(
 
 /// The offset after the feature at one, and how many keys and values are used then. A visitor is
 /// told the feature.
-fn take_feature<V: CanonicalVisitor>(
+fn take_feature<V: FeatureVisitor>(
     alloc: Global,
     visitor: &mut V,
     body: &[u8],
@@ -486,8 +486,8 @@ fn take_feature<V: CanonicalVisitor>(
     requires { at ≤ length body.now }
     ensures feature { IfOk result (λ f. (items : List Item) (start : ℕ) (held : List AValue)
         → length held ≡ values
-        → AreFeaturesFrom (V.has_read items visitor.old) body.now start keys.old held at used
-        → AreFeaturesFrom (V.has_read items visitor.new) body.now start keys.old held f.0 f.1) }
+        → AreFeaturesFrom (V.has_features items visitor.old) body.now start keys.old held at used
+        → AreFeaturesFrom (V.has_features items visitor.new) body.now start keys.old held f.0 f.1) }
     ensures within { IfOk result (λ f. (at < f.0) × (f.0 ≤ length body.now)) }
     ensures same { keys.new ≡ keys.old }
 {

@@ -1,73 +1,26 @@
 //! A layer made canonical one feature after another: each is written, and passed to a visitor
 //! (Mapbox Vector Tile Specification 2.1, 4.1).
-ghost use Rattle.std.specs.Prelude.{◌≡◌, ℕ, ◌+◌, ◌^◌, ◌<◌, ◌≤◌, [], ◌∷◌, ◌++◌, List, length, None, IfOk, IfErr, OnErr, OnOk};
+ghost use Rattle.std.specs.Prelude.{◌≡◌, ◌+◌, ◌^◌, ◌<◌, ◌≤◌, [], ◌++◌, List, length, None, IfOk, IfErr, OnErr, OnOk};
 ghost use Rattle.mvt_base.specs.Related.{Extends};
 ghost use Rattle.mvt_base.specs.Reports.{Reports};
-ghost use Rattle.mvt_geometry.specs.Drawing.{Draws};
-ghost use Rattle.mvt_wire.specs.Field.{bytes as in_bytes};
-ghost use Rattle.mvt_wire.specs.Spelling.{short_field, spelled};
-ghost use Rattle.mvt_feature.specs.declared.feature.Feature.{Feature as AFeature};
+ghost use Rattle.mvt_wire.specs.Spelling.{spelled};
 ghost use Rattle.mvt_feature.specs.Faults.{fault_of};
 ghost use Rattle.mvt_message.specs.declared.item.Item.{Item};
-ghost use Rattle.mvt_message.specs.declared.numbers.layer.TheConstants.{FEATURES};
 ghost use Rattle.mvt_message.specs.CanonicalItems.{head_fields};
 ghost use Rattle.mvt_message.specs.ItemRules.{item_fault};
 ghost use Rattle.mvt_message.specs.Rewriting.{IsRewrittenAs, tail_of};
 
+use crate::feature_visitor::FeatureVisitor;
 use crate::layer_writer::{LayerWriter, put_head};
-use crate::numbers::layer;
 use crate::visiting::{LayerVisitor, Visited, visit_version_2};
 use mvt_attrs::LayerKeys;
 use mvt_base::{LIMIT, Text};
-use mvt_feature::{FeatureFields, MessageError, Scratch, read_value, rewrite_feature};
-use mvt_geometry::Ignore;
-use mvt_wire::{Payload, put_field};
+use mvt_feature::{MessageError, Scratch, read_value};
 use std::alloc::{AllocError, Global};
-
-/// An object that receives the features of a layer, one after another, while the layer is made
-/// canonical.
-pub trait RewriteVisitor: Drop {
-    // What it has of the items before this one and of these features, whose canonical fields are
-    // these bytes.
-    ghost has_features: { List Item → Self → List AFeature → List ℕ → Type 0 };
-
-    /// Takes a feature, whose canonical payload this is. It has this id and this type, and the
-    /// integers draw its geometry.
-    ///
-    /// # Errors
-    ///
-    /// When memory runs out.
-    fn visit_rewritten(
-        &mut self,
-        alloc: Global,
-        fields: &FeatureFields,
-        integers: &[u32],
-        payload: &[u8],
-    ) -> Result<(), AllocError>
-        ensures { (items : List Item) (features : List AFeature) (done : List ℕ) (f : AFeature)
-            → has_features items self.old features done → f.id ≡ fields.now.id
-            → Draws fields.now.kind integers.now f.geometry
-            → OnOk result (has_features items self.new (features ++ f ∷ [])
-            (done ++ short_field FEATURES (in_bytes payload.now))) };
-}
-
-impl RewriteVisitor for Ignore {
-    ghost has_features = { λ _ _ _ _. Unit {0} };
-
-    fn visit_rewritten(
-        &mut self,
-        _: Global,
-        _: &FeatureFields,
-        _: &[u32],
-        _: &[u8],
-    ) -> Result<(), AllocError> {
-        Ok(())
-    }
-}
 
 /// An item that was made canonical.
 #[derive(Drop)]
-pub enum Rewritten<'a, V: RewriteVisitor> {
+pub enum Rewritten<'a, V: FeatureVisitor> {
     Layer(RewrittenLayer<'a, V>),
     /// A layer of another version, whose payload is canonical as it stands.
     Foreign(u32),
@@ -75,14 +28,14 @@ pub enum Rewritten<'a, V: RewriteVisitor> {
 
 /// The canonical parts of a layer, in order: the head, the features, the tail.
 #[derive(Drop)]
-pub struct RewrittenLayer<'a, V: RewriteVisitor> {
+pub struct RewrittenLayer<'a, V: FeatureVisitor> {
     pub name: &'a str,
     pub(crate) extent: u32,
     pub(crate) writer: LayerWriter,
     pub visitor: V,
 }
 
-impl<'a, V: RewriteVisitor> RewrittenLayer<'a, V> {
+impl<'a, V: FeatureVisitor> RewrittenLayer<'a, V> {
     /// Appends the fields before those of the features.
     ///
     /// # Errors
@@ -126,7 +79,7 @@ impl<'a, V: RewriteVisitor> RewrittenLayer<'a, V> {
 /// # Errors
 ///
 /// As [`read_item`](crate::read_item).
-pub fn rewrite_parts<'a, V: RewriteVisitor>(
+pub fn rewrite_parts<'a, V: FeatureVisitor>(
     alloc: Global,
     visitor: V,
     payload: &'a [u8],
@@ -135,9 +88,9 @@ pub fn rewrite_parts<'a, V: RewriteVisitor>(
 ) -> Result<Rewritten<'a, V>, MessageError>
     requires small { length payload.now ≤ LIMIT }
     requires fits { payload_at + length payload.now < 2 ^ 64 }
-    requires start { (items : List Item) × V.has_features items visitor [] [] }
+    requires start { (items : List Item) × V.has_features items visitor [] }
     ensures ok { OnOk result (item_fault payload.now payload_at tag_at ≡ None) }
-    ensures item { (items : List Item) → V.has_features items visitor [] []
+    ensures item { (items : List Item) → V.has_features items visitor []
         → IfOk result (IsRewrittenAs (V.has_features items) payload.now) }
     ensures fault { IfErr result (λ error. Reports (fault_of error)
         (item_fault payload.now payload_at tag_at)) }
@@ -163,26 +116,26 @@ pub fn rewrite_parts<'a, V: RewriteVisitor>(
 
 /// Writes the features of a layer as they are visited, and has a visitor be told them.
 #[derive(Drop)]
-struct LayerRewriter<V: RewriteVisitor> {
+struct LayerRewriter<V: FeatureVisitor> {
     writer: LayerWriter,
     visitor: V,
 }
 
-impl<V: RewriteVisitor> LayerVisitor for LayerRewriter<V> {
+impl<V: FeatureVisitor> LayerVisitor for LayerRewriter<V> {
     ghost use Rattle.std.specs.Prelude.{List, []};
     ghost use Rattle.mvt_message.specs.declared.item.Item.{Item};
     ghost use Rattle.mvt_message.specs.Rewriting.{HasGathered, HasWritten};
 
     ghost Given = { List Item };
 
-    ghost has_given = { λ items r. V.has_features items r.visitor [] [] };
+    ghost has_given = { λ items r. V.has_features items r.visitor [] };
 
     ghost has_values = { λ items r values. HasGathered r.writer values
-        × V.has_features items r.visitor [] [] };
+        × V.has_features items r.visitor [] };
 
     ghost has_features = { λ items keys values r _ features.
         HasWritten keys values r.writer features
-        × V.has_features items r.visitor features r.writer.features.items };
+        × V.has_features items r.visitor features };
 
     fn visit_value(
         &mut self,
@@ -209,16 +162,7 @@ impl<V: RewriteVisitor> LayerVisitor for LayerRewriter<V> {
         _: usize,
         scratch: &mut Scratch,
     ) -> Result<(), MessageError> {
-        let LayerWriter {
-            uses,
-            payload: canonical,
-            features,
-        } = &mut self.writer;
-        canonical.clear();
-        let fields = rewrite_feature(alloc, payload, payload_at, keys, uses, scratch, canonical)?;
-        put_field(features, layer::FEATURES, &Payload::Len(canonical))?;
-        self.visitor
-            .visit_rewritten(alloc, &fields, scratch.integers(), canonical)?;
-        Ok(())
+        let LayerRewriter { writer, visitor } = self;
+        writer.write_feature(alloc, visitor, payload, payload_at, keys, scratch)
     }
 }

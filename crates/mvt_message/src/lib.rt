@@ -5,6 +5,8 @@
 mod around;
 mod canonical_layer;
 mod extent;
+mod feature_visitor;
+mod feature_writing;
 mod features;
 mod item;
 mod item_writing;
@@ -28,11 +30,12 @@ mod values;
 mod version;
 mod visiting;
 
-pub use canonical_layer::{CanonicalVisitor, visit_canonical};
+pub use canonical_layer::visit_canonical;
 pub use extent::extent_in;
+pub use feature_visitor::FeatureVisitor;
 pub use item::{Item, Layer};
 pub use item_writing::{PutError, item_len, put_item};
-pub use layer_rewriting::{RewriteVisitor, Rewritten, RewrittenLayer, rewrite_parts};
+pub use layer_rewriting::{Rewritten, RewrittenLayer, rewrite_parts};
 pub use layer_writer::LayerWriter;
 pub use mvt_base::LIMIT;
 pub use mvt_feature::{

@@ -15,7 +15,7 @@ use crate::numbers::layer;
 use crate::ordering::order_from;
 use mvt_attrs::{LayerEntries, LayerKeys, UsedEntries, Value};
 use mvt_base::{LIMIT, Text};
-use mvt_feature::{MessageError, NotCanonical, Scratch, read_value, rewrite_feature};
+use mvt_feature::{MessageError, NotCanonical, Scratch, read_value};
 use mvt_geometry::Ignore;
 use mvt_wire::{Payload, put_field, short_bytes_at};
 use std::alloc::{AllocError, Global};
@@ -268,17 +268,9 @@ fn write_next(
     let Some((payload, after)) = short_bytes_at(body, at, layer::FEATURES) else {
         return Err(NotCanonical::Other);
     };
-    let LayerWriter {
-        uses,
-        payload: canonical,
-        features,
-    } = writer;
-    canonical.clear();
-    match rewrite_feature(alloc, payload, 0, keys, uses, scratch, canonical) {
-        Ok(_) => {}
-        Err(MessageError::Memory) => return Err(NotCanonical::Memory),
-        Err(_) => return Err(NotCanonical::Broken),
+    match writer.write_feature(alloc, &mut Ignore, payload, 0, keys, scratch) {
+        Ok(()) => Ok(after),
+        Err(MessageError::Memory) => Err(NotCanonical::Memory),
+        Err(_) => Err(NotCanonical::Broken),
     }
-    put_field(features, layer::FEATURES, &Payload::Len(canonical))?;
-    Ok(after)
 }

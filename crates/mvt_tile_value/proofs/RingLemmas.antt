@@ -111,7 +111,7 @@ told_layer layer feature start now parts begun have = have.layer_is ∙ begun.la
 
 -- the notes of a layer, which was told the geometry of its next feature
 
-still_noted : (layer : ℕ) (features : List Feature) (start now : LayerNotes) → IsSameButRings start now → AreNoted layer start features
+pub still_noted : (layer : ℕ) (features : List Feature) (start now : LayerNotes) → IsSameButRings start now → AreNoted layer start features
     → AreNoted layer now features
 still_noted layer features start now same noted = record {
   layer_is = same.layer_is ∙ noted.layer_is;

@@ -12,7 +12,7 @@ use mvt_attrs::LayerKeys;
 use mvt_base::Text;
 use mvt_feature::{Scratch, judge_value};
 use mvt_geometry::{GeometryVisitor, Point, Ring};
-use mvt_message::{CanonicalVisitor, FeatureFields, LayerVisitor, MessageError, RewriteVisitor};
+use mvt_message::{FeatureFields, FeatureVisitor, LayerVisitor, MessageError};
 use std::alloc::{AllocError, Global};
 
 /// The notes of the features of a layer.
@@ -102,26 +102,6 @@ impl LayerVisitor for LayerNotes {
     }
 }
 
-/// Of a layer that is made canonical too.
-impl RewriteVisitor for LayerNotes {
-    ghost use Rattle.std.specs.Prelude.{length};
-    ghost use Rattle.mvt_tile_value.specs.Findings.{AreNotedSoFar};
-
-    ghost has_features = { λ items noted features _.
-        AreNotedSoFar (length items) noted features };
-
-    fn visit_rewritten(
-        &mut self,
-        _: Global,
-        fields: &FeatureFields,
-        integers: &[u32],
-        _: &[u8],
-    ) -> Result<(), AllocError> {
-        self.rings.add_rings(fields.kind, integers)?;
-        self.add(fields.id)
-    }
-}
-
 /// The rings of the next feature are noted as they come.
 impl GeometryVisitor for LayerNotes {
     ghost use Rattle.std.specs.Prelude.{◌≡◌};
@@ -162,12 +142,17 @@ impl GeometryVisitor for LayerNotes {
     }
 }
 
-/// Of a layer that is canonical as it stands.
-impl CanonicalVisitor for LayerNotes {
+/// Of a layer that is canonical, or is made so.
+impl FeatureVisitor for LayerNotes {
     ghost use Rattle.std.specs.Prelude.{length};
     ghost use Rattle.mvt_tile_value.specs.Findings.{AreNotedSoFar};
 
-    ghost has_read = { λ items noted features. AreNotedSoFar (length items) noted features };
+    ghost has_features = { λ items noted features. AreNotedSoFar (length items) noted features };
+
+    fn begin_feature(&mut self) {
+        let feature = self.count;
+        self.rings.begin(feature);
+    }
 
     fn end_feature(&mut self, _: Global, known: &FeatureFields) -> Result<(), AllocError> {
         self.add(known.id)

@@ -2,10 +2,8 @@
 ghost use Rattle.std.specs.Prelude.{◌≡◌, ◌+◌, ◌^◌, ◌<◌, ℕ, List, length, None, IfOk, IfErr, OnOk};
 ghost use Rattle.mvt_base.specs.Reports.{Reports};
 ghost use Rattle.mvt_attrs.specs.declared.value.Value.{Value};
-ghost use Rattle.mvt_geometry.specs.declared.shape.Geometry.{Geometry as AGeometry};
 ghost use Rattle.mvt_geometry.specs.declared.shape.Point.{Point as APoint};
 ghost use Rattle.mvt_geometry.specs.Area.{area2};
-ghost use Rattle.mvt_geometry.specs.Drawing.{Draws};
 ghost use Rattle.mvt_geometry.specs.Rings.{is_closed};
 ghost use Rattle.mvt_feature.specs.Drawn.{IsDrawnOf, tags_of};
 ghost use Rattle.mvt_feature.specs.Faults.{fault_of};
@@ -16,7 +14,7 @@ use crate::note::Note;
 use crate::noting::note_known_ring;
 use mvt_attrs::LayerKeys;
 use mvt_feature::{FeatureFields, MessageError, Scratch, draw_feature, draw_usual_feature};
-use mvt_geometry::{GeometryVisitor, Kind, Point, Ring, draw_geometry};
+use mvt_geometry::{GeometryVisitor, Point, Ring};
 use std::alloc::{AllocError, Global};
 
 /// Notes the rings of a feature.
@@ -49,21 +47,6 @@ impl RingNotes {
         self.feature = feature;
         self.count = 0;
         self.notes.clear();
-    }
-
-    /// Notes the rings of a feature of this kind, whose geometry these integers draw.
-    pub(crate) fn add_rings(&mut self, kind: Kind, integers: &[u32]) -> Result<(), AllocError>
-        ensures { (layer feature : ℕ) (g : AGeometry) → HasBegun layer feature self.old
-            → Draws kind integers.now g → OnOk result (HasNotedAll layer feature g self.new) }
-    {
-        if kind != Kind::Polygon {
-            return Ok(());
-        }
-        match draw_geometry(self, kind, integers) {
-            Ok(()) => Ok(()),
-            // The integers were judged, so memory ran out.
-            Err(_) => Err(AllocError),
-        }
     }
 
     /// Notes the rings of the next feature, and answers what else its fields say.

@@ -7,7 +7,7 @@ returns-clause-feature c = λ held uses.
     let (f, is, are) = c.in_ok-known.ensures.judged held (sym (c.len-values.ensures held uses.1)) in (
       f,
       is,
-      c.in_ok-append_judged.ensures.rewritten c.args.keys.now held f uses is are,
+      c.in_ok-append_judged.ensures.rewritten c.args.keys.now held f uses are,
       are.id,
       subst (λ i. Draws c.in_ok-known.known.kind i f.geometry) (sym c.append_judged.ensures.integers) are.integers,
     )

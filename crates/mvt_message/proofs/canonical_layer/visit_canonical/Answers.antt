@@ -14,7 +14,7 @@ returns-in-Ok-All g c = λ items has.
     let start = ap (λ (p : ℕ × ℕ). p.0) c.bounds_of-features_at.ensures in
     let end = ap (λ (p : ℕ × ℕ). p.1) c.bounds_of-features_at.ensures in
     rw name
-    (canonical_is (g.V.CanonicalVisitor.has_read items c.seen_of.new.visitor) c.args.payload.now frame.name.now frame.extent
+    (canonical_is (g.V.FeatureVisitor.has_features items c.seen_of.new.visitor) c.args.payload.now frame.name.now frame.extent
     frame.features_at frame.front.end_at (copied_core layer) c.requires is.around core place.0 place.1
     (omega (arith, is.behind, is.is_front.keys_within)) is.is_front.values.0
     (omega (arith, size, start, end, c.if-features_at-layer.false)))

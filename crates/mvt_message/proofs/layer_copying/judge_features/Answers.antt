@@ -8,7 +8,7 @@ loop-at-init g c = (
   c.requires,
   c.new-layer_keys.ensures,
   λ items has held count ready.
-      features_from_none (g.V.CanonicalVisitor.has_read items c.args.visitor.now) c.args.body.now c.args.start c.args.keys.now held ready
+      features_from_none (g.V.FeatureVisitor.has_features items c.args.visitor.now) c.args.body.now c.args.start c.args.keys.now held ready
       has,
   λ none. refl,
 )
@@ -18,7 +18,7 @@ returns-in-Err-Other-clause-features g c = λ items has.
     IfOk-weaker c.reached_at.result _ _
     (λ reached is held count ready.
     let counted : length held ≡ c.len-values.result = omega (arith, count, c.len-values.ensures, c.args.front.now.values.ok.0) in
-    reached_from (g.V.CanonicalVisitor.has_read items c.loop-at.visitor) _ c.args.body.now c.args.start c.loop-at.at reached.at
+    reached_from (g.V.FeatureVisitor.has_features items c.loop-at.visitor) _ c.args.body.now c.args.start c.loop-at.at reached.at
     c.args.keys.now held
     c.loop-at.used reached.used (c.loop-at.invariant.2 items has held counted ready) is.0 is.1
     (λ fs told whole. let none = is.2 in cc)) c.reached_at.ensures.same
@@ -28,7 +28,7 @@ returns-clause-features g c = λ items has.
     IfOk-weaker c.reached_at-2.result _ _
     (λ reached is held count ready.
     let counted : length held ≡ c.len-values.result = omega (arith, count, c.len-values.ensures, c.args.front.now.values.ok.0) in
-    reached_from (g.V.CanonicalVisitor.has_read items c.loop-at.visitor) _ c.args.body.now c.args.start c.loop-at.at reached.at
+    reached_from (g.V.FeatureVisitor.has_features items c.loop-at.visitor) _ c.args.body.now c.args.start c.loop-at.at reached.at
     c.args.keys.now held
     c.loop-at.used reached.used (c.loop-at.invariant.2 items has held counted ready) is.0 is.1
     (λ fs told whole. told)) c.reached_at-2.ensures.same

@@ -8,9 +8,9 @@ use Rattle.mvt_message.proofs.layer_copying.judge_features.Given as goal
 abbrev pub invariant-loop-at : goal.invariant-loop-at
 invariant-loop-at g l =
     (l.at ≤ length l.body) × (l.layer_keys ≡ l.keys)
-    × ((items : List Item) → g.V.CanonicalVisitor.has_read items l.initial.visitor [] → (held : List Value) → length held ≡ l.values
+    × ((items : List Item) → g.V.FeatureVisitor.has_features items l.initial.visitor [] → (held : List Value) → length held ≡ l.values
     → AreReady l.keys held (0, 0)
-    → AreFeaturesFrom (g.V.CanonicalVisitor.has_read items l.visitor) l.body l.start l.keys held l.at l.used)
+    → AreFeaturesFrom (g.V.FeatureVisitor.has_features items l.visitor) l.body l.start l.keys held l.at l.used)
     × (l.end ≡ l.start → l.at ≡ l.start)
 
 abbrev pub decreases-loop-at : goal.decreases-loop-at

@@ -72,7 +72,7 @@ returns-then-not-reached-clause-seen g c = λ items has.
     let keys = c.in-Some.keys.items in
     let reached = c.in_ok-reached.reached in
     let WereTold : List Feature → Type 0 = λ fs. IsTrue reached.is_whole
-    → g.V.CanonicalVisitor.has_read items c.judge_features.new.visitor fs in
+    → g.V.FeatureVisitor.has_features items c.judge_features.new.visitor fs in
     let texts_are : keys ≡ lent front.keys.items = (rw c.in-Some.is at c.in_ok-keys.ensures.are) ∙ ap lent c.deref.ensures.value in
     let texts : AllByRecursion IsUtf8 keys = rw c.in-Some.is at c.in_ok-keys.ensures.texts in
     part_is WereTold body _ start front.end_at frame.around (inl (refl, refl, refl)) frame.is_front (omega (arith, frame.behind, frame.is_front.keys_within))
@@ -87,7 +87,7 @@ was_whole false e = cc
 
 pub returns-clause-seen : goal.returns-clause-seen
 returns-clause-seen g c = λ items has.
-    let AreTold : List Feature → Type 0 = g.V.CanonicalVisitor.has_read items c.judge_features.new.visitor in
+    let AreTold : List Feature → Type 0 = g.V.FeatureVisitor.has_features items c.judge_features.new.visitor in
     let body = c.args.body.now in
     let start = c.args.frame.features_at in
     let front = c.args.frame.front in

@@ -13,9 +13,9 @@ returns-in-Ok-Layer-clause-item g c = λ items start.
     let (item, is, valid, visited) = c.in-Ok-Layer.ensures.item items (c.in_ok-with_room.ensures, start) start in
     let reported = rw c.in-Ok-Layer.field-0-is at visited in
     let (layer, told, p) =
-    layer_visited (λ r. g.V.RewriteVisitor.has_features items r.visitor [] [])
+    layer_visited (λ r. g.V.FeatureVisitor.has_features items r.visitor [])
     (λ keys values r payloads features. HasWritten keys values r.writer features
-    × g.V.RewriteVisitor.has_features items r.visitor features r.writer.features.items)
+    × g.V.FeatureVisitor.has_features items r.visitor features)
     payload c.visit_version_2.new.visitor (Layer c.in-Ok-Layer.name c.in-Ok-Layer.extent)
     (λ i. IsItem payload i × ValidItem i) (λ number content none. none) item reported (is, valid) in
     let written = told.2.0 in (
@@ -34,9 +34,9 @@ returns-in-Ok-Foreign-clause-item g c = λ items start.
     let (item, is, valid, visited) = c.in-Ok-Foreign.ensures.item items (c.in_ok-with_room.ensures, start) start in
     let reported = rw c.in-Ok-Foreign.field-0-is at visited in
     let (number, content, told, p) =
-    foreign_visited (λ r. g.V.RewriteVisitor.has_features items r.visitor [] [])
+    foreign_visited (λ r. g.V.FeatureVisitor.has_features items r.visitor [])
     (λ keys values r payloads features. HasWritten keys values r.writer features
-    × g.V.RewriteVisitor.has_features items r.visitor features r.writer.features.items)
+    × g.V.FeatureVisitor.has_features items r.visitor features)
     payload c.visit_version_2.new.visitor (Foreign c.in-Ok-Foreign.version)
     (λ i. IsItem payload i × ValidItem i) (λ layer none. none) item reported (is, valid) in
     foreign_made (λ i. IsItem payload i × ValidItem i) {number = number} {content = content} payload c.in-Ok-Foreign.version

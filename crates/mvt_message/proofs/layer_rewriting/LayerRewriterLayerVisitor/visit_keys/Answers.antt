@@ -1,11 +1,5 @@
-use Rattle.std.proofs.Common.{[], subst, sym}
 use Rattle.std.proofs.lemmas.Result.{on_ok_weaker}
 use Rattle.mvt_message.proofs.layer_rewriting.LayerRewriterLayerVisitor.visit_keys.Goals as goal
 
 pub returns : goal.returns
-returns g c = λ items values has.
-    on_ok_weaker c.place_keys.result
-    (λ written. (
-      written,
-      subst (g.V.RewriteVisitor.has_features items c.args.self.now.visitor []) (sym (written.written [])) has.1,
-    )) (c.place_keys.ensures values has.0)
+returns g c = λ items values has. on_ok_weaker c.place_keys.result (λ written. (written, has.1)) (c.place_keys.ensures values has.0)

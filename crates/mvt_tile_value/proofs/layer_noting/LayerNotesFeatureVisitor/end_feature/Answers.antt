@@ -1,6 +1,6 @@
 use Rattle.std.proofs.Common.{length}
 use Rattle.mvt_tile_value.proofs.RingLemmas.{told_noted}
-use Rattle.mvt_tile_value.proofs.layer_noting.LayerNotesCanonicalVisitor.end_feature.Goals as goal
+use Rattle.mvt_tile_value.proofs.layer_noting.LayerNotesFeatureVisitor.end_feature.Goals as goal
 
 pub returns : goal.returns
 returns c = λ items features f start before drawn id kind.
