@@ -58,6 +58,8 @@ def _narrowed(page):
         less = min(1, (WIDTH - 3 * len(widths)) / sum(widths))
         return re.sub(r"w\((.*?)n\)", lambda width: f"w({float(width[1]) * less:.1f}n)", line[0])
 
+    # A terminal has one long page, on which a table's row is never cut.
+    page = re.sub(r"^(\.TH .*\n)", r"\1.if n .pl 9999\n", page, count=1, flags=re.M)
     return re.sub(r"^l.*w\(.*$", scaled, page, flags=re.M)
 
 

@@ -222,7 +222,7 @@ if there "installed by hand: CMake" cmake; then check "installed by hand: CMake"
 
 mkdir "$out/completions" "$out/manual" && cp packaging/completion/* "$out/completions"
 check "completion: made" env PYTHONPATH=library/python:tools "$PYTHON" packaging/complete.py "$out/completions"
-check "completion: commands" [ "$(complete_line mvt "")" = "check explain lint fields show draw rewrite extract help" ]
+check "completion: commands" [ "$(complete_line mvt "")" = "check explain lint fields show draw rewrite extract help --version" ]
 check "completion: a command" [ "$(complete_line mvt r)" = rewrite ]
 check "completion: files" [ "$(complete_line mvt check README) $(complete_line mvt explain README)" = "README.md README.md" ]
 check "completion: no files" [ -z "$(complete_line mvt show README)" ]
