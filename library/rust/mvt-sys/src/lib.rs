@@ -94,14 +94,17 @@ pub mod rows_cause {
     pub const MVT_ROWS_REPEATED_NAME: u32 = 19;
 }
 
-pub const ROLE_NOTHING: u32 = 0;
-pub const ROLE_MOVE_TO: u32 = 1;
-pub const ROLE_LINE_TO: u32 = 2;
-pub const ROLE_MOVE_X: u32 = 3;
-pub const ROLE_MOVE_Y: u32 = 4;
-pub const ROLE_LINE_X: u32 = 5;
-pub const ROLE_LINE_Y: u32 = 6;
-pub const ROLE_CLOSE_PATH: u32 = 7;
+/// What an integer of a geometry is, in an `mvt_step`.
+pub mod role {
+    pub const NOTHING: u32 = 0;
+    pub const MOVE_TO: u32 = 1;
+    pub const LINE_TO: u32 = 2;
+    pub const MOVE_X: u32 = 3;
+    pub const MOVE_Y: u32 = 4;
+    pub const LINE_X: u32 = 5;
+    pub const LINE_Y: u32 = 6;
+    pub const CLOSE_PATH: u32 = 7;
+}
 
 #[repr(C)]
 #[derive(Clone, Copy, Debug, PartialEq, Eq)]
