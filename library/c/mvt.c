@@ -42,6 +42,16 @@ void mvt_findings_free(mvt_findings *findings) {
     memset(findings, 0, sizeof *findings);
 }
 
+void mvt_surroundings_free(mvt_surroundings *surroundings) {
+    if (surroundings == NULL) return;
+    give_back(surroundings->keys, surroundings->key_count);
+    give_back(surroundings->tags, surroundings->tag_count);
+    give_back(surroundings->geometry, surroundings->geometry_count);
+    give_back(surroundings->steps, surroundings->step_count);
+    give_back(surroundings->fields, surroundings->field_count);
+    memset(surroundings, 0, sizeof *surroundings);
+}
+
 uint32_t mvt_read_named(const uint8_t *bytes, size_t len, const uint8_t *name, size_t name_len, mvt_tile *out,
                         mvt_fault *fault);
 

@@ -451,12 +451,71 @@ typedef struct {
 } mvt_place;
 void mvt_locate(const uint8_t *bytes, size_t len, const mvt_fault *fault, mvt_place *out);
 
+/* The bytes of a field: where its tag begins, where its payload begins, which is after the length if it has one, and where
+ * both end. */
+typedef struct {
+    uint64_t start, body, end;
+} mvt_bounds;
+
+/* A field of a message. Its wire type is 0, 1, 2 or 5. */
+typedef struct {
+    uint32_t number, wire_type;
+    mvt_bounds bounds;
+} mvt_field;
+
+/* An integer of a feature's tags or geometry, and the bytes that spell it. */
+typedef struct {
+    uint64_t value, start, end;
+} mvt_integer;
+
+/* What an integer of a geometry is (MVT specification 2.1, 4.3): a command, or a parameter of one. */
+typedef enum {
+    MVT_ROLE_NOTHING = 0,   /* no command; more than 32 bits; or behind such an integer or a position out of range */
+    MVT_ROLE_MOVE_TO = 1,
+    MVT_ROLE_LINE_TO = 2,
+    MVT_ROLE_MOVE_X = 3,
+    MVT_ROLE_MOVE_Y = 4,    /* begins a part with the point (x, y) */
+    MVT_ROLE_LINE_X = 5,
+    MVT_ROLE_LINE_Y = 6,    /* adds the point (x, y) to the part, or begins the first one */
+    MVT_ROLE_CLOSE_PATH = 7 /* joins the part's last point to its first */
+} mvt_role;
+
+/* What an integer of a geometry is, and where the cursor stands after it. */
+typedef struct {
+    uint32_t role;      /* an mvt_role */
+    uint32_t left;      /* so many parameters of the command are still to come */
+    int64_t x, y;
+} mvt_step;
+
+/* What there is round a fault. What isn't there, or can't be read, is 0. An extent and a type are what the last field says
+ * that can be read, whatever it is. */
+typedef struct {
+    mvt_place place;
+    uint32_t has_layer, has_extent, has_feature, has_kind; /* 1 or 0 */
+    mvt_bounds layer, feature;
+    mvt_bounds message;     /* the innermost message in which the fault is: the feature, a value, the layer or the tile */
+    uint64_t extent, kind;
+    uint32_t list;          /* the field whose integers the fault's `at` counts: 2, tags, 4, geometry, or 0, none */
+    const mvt_bounds *keys;      size_t key_count;      /* of the layer */
+    const mvt_integer *tags;     size_t tag_count;      /* of the feature */
+    const mvt_integer *geometry; size_t geometry_count; /* of the feature */
+    const mvt_step *steps;       size_t step_count;     /* one for each integer of the geometry */
+    const mvt_field *fields;     size_t field_count;    /* of the message, up to the first bytes that are none */
+} mvt_surroundings;
+
+/* What a person wants to see round a fault of refused bytes: the layer and the feature that it names, the integers of tags
+ * and geometry with what they draw, and the fields round it. Takes any bytes and any fault, in a time and with a memory
+ * that grow with the layer, or with the bytes if the fault is in no layer; an integer of one byte takes 48. Free it with
+ * mvt_surroundings_free. MVT_OK, MVT_NO_MEMORY. */
+mvt_status mvt_around(const uint8_t *bytes, size_t len, const mvt_fault *fault, mvt_surroundings *out);
+
 /* Free what a call put into `out`, and leave zeros there, so that a second call does nothing. NULL does nothing, here and in
  * mvt_decoder_free and mvt_builder_free. */
 void mvt_bytes_free(mvt_bytes *bytes);
 void mvt_tile_free(mvt_tile *tile);
 void mvt_summary_free(mvt_summary *summary);
 void mvt_findings_free(mvt_findings *findings);
+void mvt_surroundings_free(mvt_surroundings *surroundings);
 
 #ifdef __GNUC__
 #pragma GCC visibility pop

@@ -696,6 +696,54 @@ private:
     return findings::adopt(out);
 }
 
+/// What there is round a fault. What can't be read isn't there; the layer's name points into the bytes that were given.
+class surroundings : detail::owner<mvt_surroundings, mvt_surroundings_free> {
+public:
+    surroundings() noexcept = default;
+    /// Takes over what mvt_around returned, and frees it.
+    [[nodiscard]] static surroundings adopt(const mvt_surroundings &held) noexcept { return surroundings(held); }
+    [[nodiscard]] const mvt_place &place() const & noexcept { return held_.place; }
+    const mvt_place &place() const && = delete;
+    /// The bytes of the layer and of the feature that the fault names, and of the innermost message in which it is.
+    [[nodiscard]] std::optional<mvt_bounds> layer() const noexcept { return told(held_.has_layer, held_.layer); }
+    [[nodiscard]] std::optional<mvt_bounds> feature() const noexcept { return told(held_.has_feature, held_.feature); }
+    [[nodiscard]] mvt_bounds message() const noexcept { return held_.message; }
+    /// The layer's extent and the feature's type, as the last field says that can be read.
+    [[nodiscard]] std::optional<std::uint64_t> extent() const noexcept { return told(held_.has_extent, held_.extent); }
+    [[nodiscard]] std::optional<std::uint64_t> kind() const noexcept { return told(held_.has_kind, held_.kind); }
+    /// The field whose integers the fault's place counts: 2, tags, 4, geometry, or 0, none.
+    [[nodiscard]] std::uint32_t list() const noexcept { return held_.list; }
+    /// The layer's keys; the feature's integers, with a step for each of the geometry; the message's fields.
+    [[nodiscard]] std::span<const mvt_bounds> keys() const & noexcept { return {held_.keys, held_.key_count}; }
+    [[nodiscard]] std::span<const mvt_integer> tags() const & noexcept { return {held_.tags, held_.tag_count}; }
+    [[nodiscard]] std::span<const mvt_integer> geometry() const & noexcept { return {held_.geometry, held_.geometry_count}; }
+    [[nodiscard]] std::span<const mvt_step> steps() const & noexcept { return {held_.steps, held_.step_count}; }
+    [[nodiscard]] std::span<const mvt_field> fields() const & noexcept { return {held_.fields, held_.field_count}; }
+    std::span<const mvt_bounds> keys() const && = delete;
+    std::span<const mvt_integer> tags() const && = delete;
+    std::span<const mvt_integer> geometry() const && = delete;
+    std::span<const mvt_step> steps() const && = delete;
+    std::span<const mvt_field> fields() const && = delete;
+
+private:
+    using owner::owner;
+    template <class T>
+    static std::optional<T> told(std::uint32_t is_there, const T &of) noexcept {
+        return is_there == 1 ? std::optional<T>(of) : std::nullopt;
+    }
+};
+
+/// What there is round the fault of a refused tile, for any bytes and any fault.
+[[nodiscard]] inline surroundings around(input of, const mvt_fault &fault) {
+    mvt_surroundings out{};
+    require_ok(mvt_around(of.data(), of.size(), &fault, &out), fault, of);
+    return surroundings::adopt(out);
+}
+[[nodiscard]] inline surroundings around(input of, const refused &why) {
+    const auto index = [](std::optional<std::uint32_t> told) { return told ? static_cast<std::int64_t>(*told) : -1; };
+    return around(of, mvt_fault{index(why.layer()), index(why.feature()), why.at(), why.cause(), {nullptr, 0}});
+}
+
 /// A picture of a tile in SVG. Throws refused.
 [[nodiscard]] inline bytes svg(input of) { return detail::made(of, mvt_svg); }
 

@@ -149,6 +149,24 @@ func TestNotesAndFindings(t *testing.T) {
 	same(t, "a fault", errors.As(err, &fault) && fault.Cause == mvt.CauseFieldNumber, true)
 }
 
+// TestAround looks at the layer "a" with a line whose second step goes nowhere.
+func TestAround(t *testing.T) {
+	tile := []byte("\x1a\x12\x78\x02\x0a\x01a\x12\x0b\x18\x02\x22\x07\x09\x04\x04\x0a\x00\x00\x00")
+	var fault *mvt.Refused
+	same(t, "a fault", errors.As(mvt.Judge(tile), &fault), true)
+	told, err := mvt.Around(tile, fault)
+	must(t, err, told)
+	same(t, "bounds", []mvt.Bounds{*told.Layer, *told.Feature, told.Message}, []mvt.Bounds{{0, 2, 20}, {7, 9, 20}, {7, 9, 20}})
+	same(t, "numbers", []uint64{*told.Kind, uint64(told.List), uint64(len(told.Tags)), uint64(len(told.Keys))}, []uint64{2, 4, 0, 0})
+	same(t, "an extent", told.Extent == nil, true)
+	start, end, _ := fault.Place()
+	same(t, "the integer of the fault", told.Geometry[fault.At], mvt.Integer{Value: 0, Start: start, End: end})
+	same(t, "a point", told.Steps[2], mvt.Step{Role: mvt.RoleMoveY, X: 2, Y: 2})
+	same(t, "fields", told.Fields, []mvt.Field{{3, 0, mvt.Bounds{9, 10, 11}}, {4, 2, mvt.Bounds{11, 13, 20}}})
+	told, err = mvt.Around(nil, &mvt.Refused{Layer: 3, Feature: -1, At: 9})
+	same(t, "nothing", must(t, err, told).Layer == nil && len(told.Fields) == 0, true)
+}
+
 // explained says whether what is said of a fault, and its bytes, are lines of what the program explains.
 func explained(t *testing.T, path string, tile []byte, fault *mvt.Refused) {
 	t.Helper()

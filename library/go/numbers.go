@@ -71,3 +71,15 @@ var findingNames = map[FindingKind]string{
 	FindingLargeId:         "LargeId",
 	FindingLargeNumber:     "LargeNumber",
 }
+
+// The roles.
+const (
+	RoleNothing   Role = 0
+	RoleMoveTo    Role = 1
+	RoleLineTo    Role = 2
+	RoleMoveX     Role = 3
+	RoleMoveY     Role = 4
+	RoleLineX     Role = 5
+	RoleLineY     Role = 6
+	RoleClosePath Role = 7
+)

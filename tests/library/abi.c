@@ -80,6 +80,14 @@ static_assert(MVT_ROWS_GEOMETRY == 16, "MVT_ROWS_GEOMETRY");
 static_assert(MVT_ROWS_DRAWING == 17, "MVT_ROWS_DRAWING");
 static_assert(MVT_ROWS_BYTES == 18, "MVT_ROWS_BYTES");
 static_assert(MVT_ROWS_REPEATED_NAME == 19, "MVT_ROWS_REPEATED_NAME");
+static_assert(MVT_ROLE_NOTHING == 0, "MVT_ROLE_NOTHING");
+static_assert(MVT_ROLE_MOVE_TO == 1, "MVT_ROLE_MOVE_TO");
+static_assert(MVT_ROLE_LINE_TO == 2, "MVT_ROLE_LINE_TO");
+static_assert(MVT_ROLE_MOVE_X == 3, "MVT_ROLE_MOVE_X");
+static_assert(MVT_ROLE_MOVE_Y == 4, "MVT_ROLE_MOVE_Y");
+static_assert(MVT_ROLE_LINE_X == 5, "MVT_ROLE_LINE_X");
+static_assert(MVT_ROLE_LINE_Y == 6, "MVT_ROLE_LINE_Y");
+static_assert(MVT_ROLE_CLOSE_PATH == 7, "MVT_ROLE_CLOSE_PATH");
 
 static_assert(sizeof(mvt_bytes) == 16, "mvt_bytes");
 static_assert(offsetof(mvt_bytes, data) == 0, "mvt_bytes: data");
@@ -199,6 +207,50 @@ static_assert(offsetof(mvt_place, feature_id) == 24, "mvt_place: feature_id");
 static_assert(offsetof(mvt_place, start) == 32, "mvt_place: start");
 static_assert(offsetof(mvt_place, end) == 40, "mvt_place: end");
 
+static_assert(sizeof(mvt_bounds) == 24, "mvt_bounds");
+static_assert(offsetof(mvt_bounds, start) == 0, "mvt_bounds: start");
+static_assert(offsetof(mvt_bounds, body) == 8, "mvt_bounds: body");
+static_assert(offsetof(mvt_bounds, end) == 16, "mvt_bounds: end");
+
+static_assert(sizeof(mvt_field) == 32, "mvt_field");
+static_assert(offsetof(mvt_field, number) == 0, "mvt_field: number");
+static_assert(offsetof(mvt_field, wire_type) == 4, "mvt_field: wire_type");
+static_assert(offsetof(mvt_field, bounds) == 8, "mvt_field: bounds");
+
+static_assert(sizeof(mvt_integer) == 24, "mvt_integer");
+static_assert(offsetof(mvt_integer, value) == 0, "mvt_integer: value");
+static_assert(offsetof(mvt_integer, start) == 8, "mvt_integer: start");
+static_assert(offsetof(mvt_integer, end) == 16, "mvt_integer: end");
+
+static_assert(sizeof(mvt_step) == 24, "mvt_step");
+static_assert(offsetof(mvt_step, role) == 0, "mvt_step: role");
+static_assert(offsetof(mvt_step, left) == 4, "mvt_step: left");
+static_assert(offsetof(mvt_step, x) == 8, "mvt_step: x");
+static_assert(offsetof(mvt_step, y) == 16, "mvt_step: y");
+
+static_assert(sizeof(mvt_surroundings) == 240, "mvt_surroundings");
+static_assert(offsetof(mvt_surroundings, place) == 0, "mvt_surroundings: place");
+static_assert(offsetof(mvt_surroundings, has_layer) == 48, "mvt_surroundings: has_layer");
+static_assert(offsetof(mvt_surroundings, has_extent) == 52, "mvt_surroundings: has_extent");
+static_assert(offsetof(mvt_surroundings, has_feature) == 56, "mvt_surroundings: has_feature");
+static_assert(offsetof(mvt_surroundings, has_kind) == 60, "mvt_surroundings: has_kind");
+static_assert(offsetof(mvt_surroundings, layer) == 64, "mvt_surroundings: layer");
+static_assert(offsetof(mvt_surroundings, feature) == 88, "mvt_surroundings: feature");
+static_assert(offsetof(mvt_surroundings, message) == 112, "mvt_surroundings: message");
+static_assert(offsetof(mvt_surroundings, extent) == 136, "mvt_surroundings: extent");
+static_assert(offsetof(mvt_surroundings, kind) == 144, "mvt_surroundings: kind");
+static_assert(offsetof(mvt_surroundings, list) == 152, "mvt_surroundings: list");
+static_assert(offsetof(mvt_surroundings, keys) == 160, "mvt_surroundings: keys");
+static_assert(offsetof(mvt_surroundings, key_count) == 168, "mvt_surroundings: key_count");
+static_assert(offsetof(mvt_surroundings, tags) == 176, "mvt_surroundings: tags");
+static_assert(offsetof(mvt_surroundings, tag_count) == 184, "mvt_surroundings: tag_count");
+static_assert(offsetof(mvt_surroundings, geometry) == 192, "mvt_surroundings: geometry");
+static_assert(offsetof(mvt_surroundings, geometry_count) == 200, "mvt_surroundings: geometry_count");
+static_assert(offsetof(mvt_surroundings, steps) == 208, "mvt_surroundings: steps");
+static_assert(offsetof(mvt_surroundings, step_count) == 216, "mvt_surroundings: step_count");
+static_assert(offsetof(mvt_surroundings, fields) == 224, "mvt_surroundings: fields");
+static_assert(offsetof(mvt_surroundings, field_count) == 232, "mvt_surroundings: field_count");
+
 mvt_status (*const call_mvt_rewrite)(const uint8_t *, size_t, mvt_bytes *, mvt_fault *) = mvt_rewrite;
 mvt_status (*const call_mvt_extract)(const uint8_t *, size_t, const mvt_bytes *, size_t, mvt_bytes *, mvt_fault *, size_t *) = mvt_extract;
 mvt_status (*const call_mvt_json)(const uint8_t *, size_t, mvt_bytes *, mvt_fault *) = mvt_json;
@@ -250,9 +302,11 @@ const char *(*const call_mvt_note_text)(uint32_t) = mvt_note_text;
 const char *(*const call_mvt_finding_text)(uint32_t) = mvt_finding_text;
 const char *(*const call_mvt_explain)(const uint8_t *, size_t, const mvt_fault *) = mvt_explain;
 void (*const call_mvt_locate)(const uint8_t *, size_t, const mvt_fault *, mvt_place *) = mvt_locate;
+mvt_status (*const call_mvt_around)(const uint8_t *, size_t, const mvt_fault *, mvt_surroundings *) = mvt_around;
 void (*const call_mvt_bytes_free)(mvt_bytes *) = mvt_bytes_free;
 void (*const call_mvt_tile_free)(mvt_tile *) = mvt_tile_free;
 void (*const call_mvt_summary_free)(mvt_summary *) = mvt_summary_free;
 void (*const call_mvt_findings_free)(mvt_findings *) = mvt_findings_free;
+void (*const call_mvt_surroundings_free)(mvt_surroundings *) = mvt_surroundings_free;
 
 int main(void) { return 0; }

@@ -27,6 +27,7 @@ typedef union {
     mvt_tile tile;
     mvt_summary summary;
     mvt_findings findings;
+    mvt_surroundings surroundings;
 } output;
 
 typedef struct {
@@ -46,6 +47,15 @@ static uint32_t judge(const uint8_t *b, size_t n, output *o, mvt_fault *f) {
     const uint32_t status = mvt_judge(b, n, f);
     if (status == MVT_OK) memset(o, 0, sizeof *o);
     return status;
+}
+/* The fault is found beside the count. */
+static uint32_t around(const uint8_t *b, size_t n, output *o, mvt_fault *f) {
+    mvt_fault fault = {0, 0, 0, MVT_CAUSE_COMMAND, {NULL, 0}};
+    (void)f;
+    allocator_refuse_none();
+    mvt_judge(b, n, &fault);
+    begin(refused);
+    return mvt_around(b, n, &fault, &o->surroundings);
 }
 static uint32_t rows(const uint8_t *b, size_t n, output *o, mvt_fault *f) { return mvt_read(b, n, UINT64_MAX, &o->tile, f); }
 static uint32_t layer(const uint8_t *b, size_t n, output *o, mvt_fault *f) {
@@ -91,6 +101,7 @@ static void free_bytes(output *o) { mvt_bytes_free(&o->bytes); }
 static void free_tile(output *o) { mvt_tile_free(&o->tile); }
 static void free_summary(output *o) { mvt_summary_free(&o->summary); }
 static void free_findings(output *o) { mvt_findings_free(&o->findings); }
+static void free_surroundings(output *o) { mvt_surroundings_free(&o->surroundings); }
 
 static const task TASKS[] = {
     {"mvt_rewrite", rewrite, free_bytes}, {"mvt_json", json, free_bytes}, {"mvt_svg", svg, free_bytes},
@@ -98,6 +109,7 @@ static const task TASKS[] = {
     {"mvt_read_layer", layer, free_tile},
     {"mvt_report", report, free_bytes},   {"mvt_lint", lint, free_bytes},
     {"mvt_survey", survey, free_summary}, {"mvt_lint_rows", findings, free_findings},
+    {"mvt_around", around, free_surroundings},
     {"mvt_judge", judge, free_bytes},
     {"mvt_write", written, free_bytes},      {"mvt_builder_finish", built, free_bytes},
 };

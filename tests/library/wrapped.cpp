@@ -362,6 +362,23 @@ void remark(mvt::byte_span input) {
     }
 }
 
+/// What is round a fault: the layer `a` with a line that goes nowhere.
+void surround() {
+    const std::string tile("\x1a\x12\x78\x02\x0a\x01\x61\x12\x0b\x18\x02\x22\x07\x09\x04\x04\x0a\x00\x00\x00", 20);
+    try {
+        mvt::judge(tile);
+        require(false, "a broken tile is accepted");
+    } catch (const mvt::refused &why) {
+        mvt::surroundings first = mvt::around(tile, why);
+        const mvt::surroundings told = std::move(first);
+        require(first.steps().empty() && told.layer()->body == 2 && told.feature()->start == 7 && told.message().body == 9, "bounds");
+        require(told.list() == 4 && told.kind() == 2 && !told.extent() && told.keys().empty() && told.tags().empty(), "numbers");
+        require(told.geometry()[why.at()].start == why.start() && told.place().start == *why.start(), "the integer of the fault");
+        require(told.steps()[2].role == MVT_ROLE_MOVE_Y && told.steps()[2].x == 2 && told.steps()[2].y == 2, "a point");
+        require(told.fields().size() == 2 && told.fields()[1].number == 4 && told.fields()[1].bounds.end == 20, "fields");
+    }
+}
+
 /// Four threads get what one gets.
 void share(mvt::byte_span input) {
     const mvt::bytes rewritten = mvt::rewrite(input), shown = mvt::json(input);
@@ -397,6 +414,7 @@ void call(const std::string &command, const std::vector<std::string_view> &names
     if (command == "pieces") return pieces(input);
     if (command == "write") return write(input);
     if (command == "remark") return remark(input);
+    if (command == "surround") return surround();
     if (command == "check") return put(mvt::report(input));
     if (command == "lint") return put(mvt::lint(input));
     put(command == "show" ? mvt::json(input) : mvt::svg(input));

@@ -6,3 +6,4 @@ pub mod Held
 pub mod Places
 pub mod Building
 pub mod Remarks
+pub mod Around

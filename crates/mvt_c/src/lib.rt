@@ -4,6 +4,7 @@
 //! result is memory of C's `malloc`, and lasts until C frees it.
 #![tactic(auto)]
 
+mod around;
 mod building;
 mod calls;
 mod decoder;

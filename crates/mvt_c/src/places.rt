@@ -30,10 +30,17 @@ pub struct Place<'a> {
 pub extern "C" fn mvt_locate<'a>(bytes: &'a [u8], fault: &Fault, out: &mut Place<'a>)
     ensures { IsLocated bytes.now fault.now out.new }
 {
-    *out = match fault_given(fault) {
+    *out = place_given(bytes, fault);
+}
+
+/// The place of the fault that C gives back.
+pub(crate) fn place_given<'a>(bytes: &'a [u8], fault: &Fault) -> Place<'a>
+    ensures { IsLocated bytes.now fault.now result }
+{
+    match fault_given(fault) {
         Some(given) => located(bytes, &given),
         None => behind(bytes),
-    };
+    }
 }
 
 fn located<'a>(bytes: &'a [u8], fault: &TileFault) -> Place<'a>
@@ -76,7 +83,7 @@ pub extern "C" fn mvt_held_sentence(bytes: &[u8], fault: &Fault, out: &mut Bytes
 }
 
 /// The fault that C gives back; none where no cause has its number.
-fn fault_given(given: &Fault) -> Option<TileFault>
+pub(crate) fn fault_given(given: &Fault) -> Option<TileFault>
     ensures given { IfSome result (IsGiven given.now) }
     ensures unknown { result ≡ None → LacksCause given.now }
 {

@@ -1,3 +1,4 @@
+mod AroundLemmas
 mod ExplanationLemmas
 mod MessageLemmas
 mod PickLemmas

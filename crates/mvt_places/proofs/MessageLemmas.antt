@@ -39,7 +39,7 @@ end_of_payload payload at is =
 -- ---- the fields of a number and a form
 
 -- one filter for both
-formed_is : (form : Form) (k : ℕ) (xs : List Entry) → formed form k xs ≡ filter (is_of form k) xs
+pub formed_is : (form : Form) (k : ℕ) (xs : List Entry) → formed form k xs ≡ filter (is_of form k) xs
 formed_is form k [] = refl
 formed_is form k (x ∷ xs) = by_tests (x.number == k) (has_form form x.content) refl (formed_is form k xs)
   where

@@ -5,6 +5,7 @@ use Rattle.mvt_tile.specs.declared.fault.Fault.{Fault}
 use Rattle.mvt_tile.specs.TileRules.{fault_within}
 use Rattle.mvt_places.specs.Places.{place_at}
 use Rattle.mvt_places.specs.Spans.{EndsBelow}
+pub use Rattle.mvt_places.proofs.AroundLemmas.{integers_are_spelled}
 pub use Rattle.mvt_places.proofs.ThereLemmas.{first_layer_there, first_feature_there}
 pub use Rattle.mvt_places.proofs.WithinLemmas.{place_within as place_lies_any}
 use Rattle.mvt_places.proofs.WithinLemmas.{place_within}

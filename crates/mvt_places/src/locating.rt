@@ -65,7 +65,7 @@ fn locate_within<'a>(limit: usize, bytes: &'a [u8], fault: &Fault) -> Place<'a>
 
 impl<'a> Holders<'a> {
     /// What holds a fault of an input, of which so many bytes are judged.
-    fn of(limit: usize, bytes: &'a [u8], fault: &Fault) -> Self
+    pub(crate) fn of(limit: usize, bytes: &'a [u8], fault: &Fault) -> Self
         ensures is { holders_of result ≡ holders_in limit bytes.now fault.now }
         ensures within { AreWithin (holders_of result) }
         ensures end { result.end ≡ length bytes.now }
@@ -146,7 +146,7 @@ impl<'a> Holders<'a> {
     }
 
     /// The innermost message that has the byte at a place.
-    fn holder(&self, place: u64) -> Message<'a>
+    pub(crate) fn holder(&self, place: u64) -> Message<'a>
         requires within { AreWithin (holders_of self.now) }
         requires reaches { Reaches place (message_of self.now.input) }
         ensures is { message_of result ≡ spec.holder place (message_of self.now.input)

@@ -3,6 +3,8 @@
 #![tactic(auto)]
 
 #[cfg(test)]
+mod around;
+#[cfg(test)]
 mod building;
 #[cfg(test)]
 mod drawing;

@@ -18,6 +18,7 @@ from typing import TYPE_CHECKING, Any, Union
 if _find_spec("._mvt", __name__) is None:
     raise ModuleNotFoundError(f"{__path__[0]} has no _mvt.abi3.so: `library/build` makes it", name="mvt._mvt")
 
+from ._around import Around, around
 from ._errors import MvtError, NoLayer, NoTile, OutOfRange, Refused, TooLarge
 from ._mvt import (
     Builder,
@@ -77,6 +78,7 @@ def to_geopandas(layer: "Union[Layer, Frame]", z: int, x: int, y: int, decimals:
 
 
 __all__ = [
+    "Around",
     "Buffer",
     "Builder",
     "CAUSES",
@@ -112,6 +114,7 @@ __all__ = [
     "Value",
     "ValueRow",
     "Vanished",
+    "around",
     "dtype",
     "extract",
     "from_geojson",

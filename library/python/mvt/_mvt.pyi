@@ -13,6 +13,7 @@ _Built = TypeVar("_Built", bound="Builder")
 # A note and a finding, as `library/python/src/remarks.c` tells them.
 _Note = Tuple[int, int, int, int, int, int]
 _Finding = Tuple[int, bool, int, int, int, int, int]
+_Bounds = Tuple[int, int, int]
 
 class Span:
     start: int
@@ -126,6 +127,11 @@ def lint_rows(tile: _Buffer, /) -> List[_Finding]: ...
 def looked_at(
     tile: _Buffer, /
 ) -> Optional[Tuple[List[Tuple[int, _Note]], List[_Note], List[Tuple[int, _Finding]]]]: ...
+def around_rows(
+    tile: _Buffer, fault: Tuple[int, int, int, int], /
+) -> Tuple[
+    Optional[_Bounds], Optional[int], Optional[_Bounds], Optional[int], _Bounds, int, bytes, bytes, bytes, bytes, bytes
+]: ...
 def cause_text(cause: int, /) -> str: ...
 def note_text(note: int, /) -> str: ...
 def finding_text(finding: int, /) -> str: ...

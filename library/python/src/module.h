@@ -45,7 +45,7 @@ PyObject *bytes_of(PyObject *tile);
 const uint8_t *content_of(PyObject *bytes, size_t *len);
 int raise_for(const state *of, uint32_t status, const mvt_fault *fault, const uint8_t *bytes, size_t len, int is_whole);
 int raise_no_tile(const state *of, const mvt_rows_fault *wrong);
-extern PyMethodDef CALLS[], ANSWERS_CALLS[], REMARKS_CALLS[], SIZES_CALLS[];
+extern PyMethodDef CALLS[], ANSWERS_CALLS[], REMARKS_CALLS[], AROUND_CALLS[], SIZES_CALLS[];
 
 /* Rows. A list and a row look into memory of an owner, which lasts as long as they do. Nothing changes the rows of a tile,
  * which are read while other threads run. */

@@ -23,13 +23,19 @@ for name, tile in evidence.tiles(): pathlib.Path(os.environ["EVIDENCE"], f"{name
 cc -std=c11 -O1 -g -Wall -Wextra -Werror -fsanitize=address,undefined -fno-sanitize-recover=all -Ilibrary/c -o "$out/checked" \
   tests/library/remarks.c "$BUILT/libmvt.a"
 check "C: notes and findings, with sanitizers" "$out/checked" "${tiles[@]}" "$out"/evidence/*
+cc -std=c11 -O1 -g -Wall -Wextra -Werror -fsanitize=address,undefined -fno-sanitize-recover=all -Ilibrary/c -o "$out/surrounded" \
+  tests/library/around.c "$BUILT/libmvt.a"
+check "C: what is round a fault, with sanitizers" "$out/surrounded" "${tiles[@]}" "$out"/evidence/*
 cc -std=c11 -O1 -g -Wall -Wextra -Werror -Ilibrary/c -o "$out/remarks" tests/library/remarks.c "$BUILT/libmvt.a"
+cc -std=c11 -O1 -g -Wall -Wextra -Werror -Ilibrary/c -o "$out/around" tests/library/around.c "$BUILT/libmvt.a"
 if there "10,000 changed tiles under valgrind" valgrind; then
   python3 tests/library/mutate.py "$out/mutated" 10000 fixtures/tiles/gdal.mvt fixtures/tiles/postgis.mvt
   check "10,000 changed tiles under valgrind" \
     valgrind -q --error-exitcode=9 --leak-check=full "$out/calls" "$out"/mutated/*
   check "notes and findings of changed tiles under valgrind" \
     valgrind -q --error-exitcode=9 --leak-check=full "$out/remarks" "$out"/mutated/* "$out"/evidence/*
+  check "what is round a fault of changed tiles under valgrind" \
+    valgrind -q --error-exitcode=9 --leak-check=full "$out/around" "$out"/mutated/0[0-4]*
   rm -r "$out/mutated"
 fi
 

@@ -35,17 +35,17 @@ if there "C++" g++; then
   for tile in "$out"/tiles/[0-9]*.mvt; do check "C++: pieces of $(basename "$tile")" refused "$tile"; done
   for tile in gdal postgis; do
     check "C++: extract of $tile" same "fixtures/tiles/$tile.mvt" extract water places
-    for test in hold look write share pieces take lend explain build mix remark; do check "C++: $test $tile" "$out/wrapped" "$test" <"fixtures/tiles/$tile.mvt"; done
+    for test in hold look write share pieces take lend explain build mix remark surround; do check "C++: $test $tile" "$out/wrapped" "$test" <"fixtures/tiles/$tile.mvt"; done
   done
   check "C++: values of each kind" "$out/wrapped" kinds <"$out/tiles/kinds.mvt"
   if there "C++ under valgrind" valgrind; then
-    for test in hold look write show pieces take lend explain build mix remark; do
+    for test in hold look write show pieces take lend explain build mix remark surround; do
       check "C++: $test under valgrind" valgrind -q --error-exitcode=9 --leak-check=full "$out/wrapped" "$test" <fixtures/tiles/gdal.mvt
     done
     check "C++: four threads under helgrind" valgrind -q --tool=helgrind --error-exitcode=9 "$out/wrapped" share <fixtures/tiles/gdal.mvt
   fi
   g++ -std=c++20 -O1 -g -fsanitize=address,undefined -fno-sanitize-recover=all -Ilibrary/c -Ilibrary/cpp -o "$out/sanitized" tests/library/wrapped.cpp "$BUILT/libmvt.a"
-  for test in hold look write share check pieces take lend explain build mix remark; do
+  for test in hold look write share check pieces take lend explain build mix remark surround; do
     check "C++: $test with sanitizers" "$out/sanitized" "$test" <fixtures/tiles/postgis.mvt
   done
 

@@ -42,21 +42,32 @@ class Words(unittest.TestCase):
                     pictures.close_up(tile, mvt.Refused(layer, feature, at, cause, "Name"))
 
 
+def varint(number):
+    return bytes([number]) if number < 128 else bytes([number & 127 | 128]) + varint(number >> 7)
+
+
+def paths(integers):
+    """What the integers of a feature of a tile draw."""
+    feature = fields.spelled(4, b"".join(map(varint, integers)))
+    tile = fields.spelled(3, fields.spelled(2, feature))
+    return mvt.around(tile, mvt.Refused(0, 0, 0, 17, "Command")).paths()
+
+
 class Shapes(unittest.TestCase):
     # MoveTo (2, 3), LineTo +(8, 0) +(0, 10), ClosePath, MoveTo +(1, 1)
     integers = [9, 4, 6, 18, 16, 0, 0, 20, 15, 9, 2, 2]
 
     def test_paths(self):
-        drawn = shapes.paths(self.integers)
+        drawn = paths(self.integers)
         self.assertEqual([path.points for path in drawn], [[(2, 3), (10, 3), (10, 13)], [(11, 14)]])
-        self.assertEqual([path.closed for path in drawn], [True, False])
-        self.assertEqual(shapes.paths([9, 3, 3])[0].points, [(-2, -2)])
-        self.assertEqual(shapes.paths([9, 4, 6, 3, 3, 3])[0].points, [(2, 3)])
-        self.assertEqual(shapes.paths([18, 4]), [])
-        self.assertEqual(shapes.paths([0xFFFFFFF9, 4, 6])[0].points, [(2, 3)])
+        self.assertEqual([path.is_closed for path in drawn], [True, False])
+        self.assertEqual(paths([9, 3, 3])[0].points, [(-2, -2)])
+        self.assertEqual(paths([9, 4, 6, 3, 3, 3])[0].points, [(2, 3)])
+        self.assertEqual(paths([18, 4]), [])
+        self.assertEqual(paths([0xFFFFFFF9, 4, 6])[0].points, [(2, 3)])
 
     def test_positions(self):
-        drawn = shapes.paths(self.integers)
+        drawn = paths(self.integers)
         points = [drawn and (lambda path, at: path.points[at])(*shapes.position(drawn, index)) for index in range(12)]
         wanted = [(2, 3)] * 4 + [(10, 3)] * 2 + [(10, 13)] * 4 + [(11, 14)] * 2
         self.assertEqual(points, wanted)

@@ -5,7 +5,6 @@ import { basename } from 'node:path';
 import { Codec } from '../../../tools/mvt_tools/page/src/codec.js';
 import { CAUSE } from '../../../tools/mvt_tools/page/src/layout.js';
 import { varint } from '../../../tools/mvt_tools/page/src/fields.js';
-import { integersRound } from '../../../tools/mvt_tools/page/src/locate.js';
 import { BRIEF, sayHolders, sayPlace } from '../../../tools/mvt_tools/page/src/words.js';
 import { Counts } from './counts.mjs';
 import { withElements } from './elements.mjs';
@@ -38,12 +37,15 @@ await is('an accepted tile has no place', await codec.open(readFileSync(`${top}f
 for (const file of files) {
   const bytes = readFileSync(file);
   const { fault } = await codec.open(bytes).judge();
-  if (fault) await counts.check(`the place in ${basename(file)}`, async () => fits(bytes, fault, await codec.open(bytes).explain()) || JSON.stringify(fault));
+  if (fault) await counts.check(`the place in ${basename(file)}`, async () => fits(bytes, fault, await codec.open(bytes).explain(), await aroundOf(bytes)) || JSON.stringify(fault));
 }
 
-function fits(bytes, fault, told) {
+async function aroundOf(bytes) {
+  return JSON.parse(new TextDecoder().decode((await codec.open(bytes).around()).bytes));
+}
+
+function fits(bytes, fault, told, { integers }) {
   const { start, end, sentence } = told.place;
-  const integers = integersRound(bytes, fault);
   const isSame = JSON.stringify(told.fault) === JSON.stringify(fault);
   const isInside = start >= 0 && start <= end && end <= bytes.length;
   // The integer that is shown is spelled by the bytes of the place.

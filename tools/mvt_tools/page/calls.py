@@ -20,6 +20,7 @@ from mvt.geojson.making import Place, objects_of, parts_of
 
 from ..stores import place_of
 from . import frames
+from .around import told as around_told
 from .frames import Part
 
 # The rows of a tile have at most so many bytes.
@@ -38,6 +39,14 @@ def _explain(body: bytearray) -> Answer:
     tile = bytes(body)
     status, made = answer("judge", tile)
     return _spelled(status, made) + (_explained(made, tile) if status == REFUSED else [])
+
+
+def _around(body: bytearray) -> Answer:
+    """What there is round the fault of a tile that is refused, as JSON; of an accepted one null."""
+    tile = bytes(body)
+    status, made = answer("judge", tile)
+    told = around_told(tile, made) if status == REFUSED else None
+    return _spelled(NO_MEMORY, None) if status == NO_MEMORY else _spelled(OK, json.dumps(told, separators=(",", ":")).encode())
 
 
 def _made(call: str, body: bytearray) -> Answer:
@@ -96,6 +105,7 @@ def _collection(tile: memoryview, place: Optional[Place]) -> bytes:
 CALLS: Dict[str, Callable[[bytearray], Answer]] = {
     "judge": partial(_made, "judge"),
     "explain": _explain,
+    "around": _around,
     "read": partial(_made, "rows"),
     "survey": partial(_made, "survey"),
     "findings": partial(_made, "findings"),

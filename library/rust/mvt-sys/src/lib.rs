@@ -94,6 +94,18 @@ pub mod rows_cause {
     pub const MVT_ROWS_REPEATED_NAME: u32 = 19;
 }
 
+/// What an integer of a geometry is, in an `mvt_step`.
+pub mod role {
+    pub const NOTHING: u32 = 0;
+    pub const MOVE_TO: u32 = 1;
+    pub const LINE_TO: u32 = 2;
+    pub const MOVE_X: u32 = 3;
+    pub const MOVE_Y: u32 = 4;
+    pub const LINE_X: u32 = 5;
+    pub const LINE_Y: u32 = 6;
+    pub const CLOSE_PATH: u32 = 7;
+}
+
 #[repr(C)]
 #[derive(Clone, Copy, Debug, PartialEq, Eq)]
 pub struct Bytes {
@@ -266,6 +278,65 @@ pub struct Place {
     pub end: u64,
 }
 
+#[repr(C)]
+#[derive(Clone, Copy, Debug, PartialEq, Eq)]
+pub struct Bounds {
+    pub start: u64,
+    pub body: u64,
+    pub end: u64,
+}
+
+#[repr(C)]
+#[derive(Clone, Copy, Debug, PartialEq, Eq)]
+pub struct Field {
+    pub number: u32,
+    pub wire_type: u32,
+    pub bounds: Bounds,
+}
+
+#[repr(C)]
+#[derive(Clone, Copy, Debug, PartialEq, Eq)]
+pub struct Integer {
+    pub value: u64,
+    pub start: u64,
+    pub end: u64,
+}
+
+#[repr(C)]
+#[derive(Clone, Copy, Debug, PartialEq, Eq)]
+pub struct Step {
+    pub role: u32,
+    pub left: u32,
+    pub x: i64,
+    pub y: i64,
+}
+
+#[repr(C)]
+#[derive(Clone, Copy, Debug, PartialEq, Eq)]
+pub struct Surroundings {
+    pub place: Place,
+    pub has_layer: u32,
+    pub has_extent: u32,
+    pub has_feature: u32,
+    pub has_kind: u32,
+    pub layer: Bounds,
+    pub feature: Bounds,
+    pub message: Bounds,
+    pub extent: u64,
+    pub kind: u64,
+    pub list: u32,
+    pub keys: *const Bounds,
+    pub key_count: usize,
+    pub tags: *const Integer,
+    pub tag_count: usize,
+    pub geometry: *const Integer,
+    pub geometry_count: usize,
+    pub steps: *const Step,
+    pub step_count: usize,
+    pub fields: *const Field,
+    pub field_count: usize,
+}
+
 extern "C" {
     pub fn mvt_rewrite(bytes: *const u8, len: usize, out: *mut Bytes, fault: *mut Fault) -> u32;
     pub fn mvt_extract(
@@ -359,8 +430,15 @@ extern "C" {
     pub fn mvt_finding_text(finding: u32) -> *const c_char;
     pub fn mvt_explain(bytes: *const u8, len: usize, fault: *const Fault) -> *const c_char;
     pub fn mvt_locate(bytes: *const u8, len: usize, fault: *const Fault, out: *mut Place);
+    pub fn mvt_around(
+        bytes: *const u8,
+        len: usize,
+        fault: *const Fault,
+        out: *mut Surroundings,
+    ) -> u32;
     pub fn mvt_bytes_free(bytes: *mut Bytes);
     pub fn mvt_tile_free(tile: *mut Tile);
     pub fn mvt_summary_free(summary: *mut Summary);
     pub fn mvt_findings_free(findings: *mut Findings);
+    pub fn mvt_surroundings_free(surroundings: *mut Surroundings);
 }

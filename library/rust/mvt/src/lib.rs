@@ -24,6 +24,7 @@
 
 #![deny(missing_docs, unsafe_op_in_unsafe_fn, clippy::all)]
 
+mod around;
 mod builder;
 mod calls;
 mod decoder;
@@ -39,6 +40,7 @@ mod value;
 
 use mvt_sys as sys;
 
+pub use around::{around, Around, Bounds, FieldRow, Integer, Step};
 pub use builder::Builder;
 pub use calls::{
     extract, judge, lint, read, read_layer, read_within, report, rewrite, to_json, to_svg, version,
@@ -49,7 +51,7 @@ pub use error::{Error, Refused, RowsFault};
 pub use feature::{Attributes, Feature, Features};
 pub use geometry::{Kind, Part, Parts, Point};
 pub use layer::{Layer, Layers};
-pub use mvt_sys::{cause, rows_cause, LIMIT};
+pub use mvt_sys::{cause, role, rows_cause, LIMIT};
 pub use output::Bytes;
 pub use remarks::{lint_rows, survey, Finding, Note, Summary};
 pub use rows::{FeatureRow, LayerRow, PartRow, Rows, Span, ValueRow};

@@ -554,3 +554,35 @@ fn notes_and_findings_are_values() {
         (mvt::cause::FIELD_NUMBER, "FieldNumber")
     );
 }
+
+/// The layer `a` with a line whose second step goes nowhere.
+#[test]
+fn tells_what_is_round_a_fault() {
+    let tile = [
+        0x1a, 18, 0x78, 2, 0x0a, 1, b'a', 0x12, 11, 0x18, 2, 0x22, 7, 9, 4, 4, 10, 0, 0, 0,
+    ];
+    let Error::Refused(fault) = mvt::judge(&tile).unwrap_err() else {
+        panic!("a broken tile is accepted");
+    };
+    let told = mvt::around(&tile, &fault).unwrap();
+    let (layer, feature) = (told.layer.unwrap(), told.feature.unwrap());
+    assert_eq!((layer.body, feature.start, told.message), (2, 7, feature));
+    assert_eq!(
+        (told.list, told.kind, told.extent),
+        (Some(4), Some(2), None)
+    );
+    let integer = told.geometry[fault.at as usize];
+    assert_eq!(Some(integer.start..integer.end), fault.bytes);
+    let point = told.steps[2];
+    assert_eq!((point.role, point.x, point.y), (mvt::role::MOVE_Y, 2, 2));
+    assert_eq!(told.fields[1].bounds.end, 20);
+    let nowhere = mvt::Refused {
+        layer: Some(9),
+        ..*fault
+    };
+    let told = mvt::around(&[], &nowhere).unwrap();
+    assert_eq!(
+        (told.layer, told.steps.len(), told.fields.len()),
+        (None, 0, 0)
+    );
+}

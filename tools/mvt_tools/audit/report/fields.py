@@ -1,8 +1,8 @@
-"""The fields of a broken tile, as far as they can be split: for pictures alone. Where a fault is, the library says."""
+"""The fields of a tile, to leave some of them out of a picture."""
 
 from typing import Iterator, List, NamedTuple, Optional, Tuple
 
-LAYERS, FEATURES, EXTENT, TAGS, KIND, GEOMETRY = 3, 2, 5, 2, 3, 4
+LAYERS, FEATURES, TAGS = 3, 2, 2
 _FIXED = {1: 8, 5: 4}
 
 
@@ -53,18 +53,6 @@ def _fields(content: bytes, start: int, end: int) -> Iterator[Field]:
         start = field.end
 
 
-def _nth(content: bytes, start: int, end: int, number: int, index: Optional[int]) -> Optional[Field]:
-    """The message of a number that has an index among its like."""
-    held = (field for field in _fields(content, start, end) if field.number == number and field.wire == 2)
-    return None if index is None else next((field for place, field in enumerate(held) if place == index), None)
-
-
-def holders(content: bytes, layer: Optional[int], feature: Optional[int]) -> Tuple[Optional[Field], Optional[Field]]:
-    """A layer and a feature of it, by their indices."""
-    held = _nth(content, 0, len(content), LAYERS, layer)
-    return held, None if held is None else _nth(content, held.body, held.end, FEATURES, feature)
-
-
 def spelled(number: int, body: bytes) -> bytes:
     """A message as a field of a number below 16."""
     head = bytearray([number << 3 | 2])
@@ -87,26 +75,3 @@ def without(content: bytes, path: Tuple[int, ...]) -> bytes:
             kept.append(spelled(field.number, without(content[field.body : field.end], rest)))
         behind = field.end
     return b"".join([*kept, content[behind:]])
-
-
-def number_in(content: bytes, message: Field, number: int) -> Optional[int]:
-    """The last number that a message has of a field."""
-    found = None
-    for field in _fields(content, message.body, message.end):
-        if field.number == number and field.wire == 0:
-            found = field.value
-    return found
-
-
-def geometry(content: bytes, feature: Field) -> Iterator[int]:
-    """The integers of a feature's geometry, packed and unpacked ones joined."""
-    for field in _fields(content, feature.body, feature.end):
-        if field.number == GEOMETRY and field.wire == 0:
-            yield field.value
-        at = field.body if field.number == GEOMETRY and field.wire == 2 else field.end
-        while at < field.end:
-            read = _varint(content, at, field.end)
-            if read is None:
-                return
-            value, at = read
-            yield value

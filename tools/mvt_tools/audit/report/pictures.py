@@ -6,8 +6,10 @@ from typing import List, NamedTuple, Optional, Tuple
 
 import mvt
 
-from .fields import EXTENT, FEATURES, KIND, LAYERS, TAGS, Field, geometry, holders, number_in, spelled, without
-from .shapes import Path, Point, paths, position
+from mvt._around import Around, Path
+
+from .fields import FEATURES, LAYERS, TAGS, spelled, without
+from .shapes import Point, position
 
 # Larger pictures are left out of the page, and of larger tiles none is made.
 MOST = 400_000
@@ -30,13 +32,14 @@ class Picture(NamedTuple):
 
 def _without(tile: bytes, fault: mvt.Refused) -> bytes:
     """The tile without the feature, the layer or the end that a fault names."""
-    layer, feature = holders(tile, fault.layer, fault.feature)
+    around = mvt.around(tile, fault)
+    layer, feature = around.layer, around.feature
     if layer is None:
         return tile[: fault.at]
     if feature is None:
-        return tile[: layer.at] + tile[layer.end :]
-    body = tile[layer.body : feature.at] + tile[feature.end : layer.end]
-    return tile[: layer.at] + spelled(LAYERS, body) + tile[layer.end :]
+        return tile[: layer.start] + tile[layer.end :]
+    body = tile[layer.body : feature.start] + tile[feature.end : layer.end]
+    return tile[: layer.start] + spelled(LAYERS, body) + tile[layer.end :]
 
 
 def mended(tile: bytes) -> Tuple[Optional[bytes], int]:
@@ -68,7 +71,7 @@ def _line(path: Path, colour: str, width: str) -> str:
     points = " ".join(f"{x} {y}" for x, y in path.points)
     if len(path.points) == 1:
         points += " l0 0"
-    return _stroke(f"M{points}{'z' if path.closed else ''}", colour, width)
+    return _stroke(f"M{points}{'z' if path.is_closed else ''}", colour, width)
 
 
 def _stroke(course: str, colour: str, width: str) -> str:
@@ -76,17 +79,17 @@ def _stroke(course: str, colour: str, width: str) -> str:
     return f'<path style="fill:none;stroke:{colour};stroke-width:{width}" d="{course}"/>'
 
 
-def _extent(tile: bytes, layer: Field) -> int:
-    told = number_in(tile, layer, EXTENT) or 0
+def _extent(around: Around) -> int:
+    told = around.extent or 0
     return told if 0 < told < 1 << 32 else 4096
 
 
 def _drawn(tile: bytes, fault: mvt.Refused) -> Tuple[List[Path], int, bool]:
     """The paths of the broken feature, the extent of its layer, and whether they are points."""
-    layer, feature = holders(tile, fault.layer, fault.feature)
-    if layer is None or feature is None:
+    around = mvt.around(tile, fault)
+    if around.feature is None:
         return [], 0, False
-    return paths(geometry(tile, feature)), _extent(tile, layer), number_in(tile, feature, KIND) == 1
+    return around.paths(), _extent(around), around.kind == 1
 
 
 def _ring(point: Point, extent: int, side: float) -> str:
@@ -190,7 +193,7 @@ def _dot(point: Point, whole: float) -> str:
 
 def _arrows(path: Path, near: List[Point], whole: float) -> str:
     """An arrow in the middle of each line near the place, and a small dot at each point."""
-    points = path.points + (path.points[:1] if path.closed else [])
+    points = path.points + (path.points[:1] if path.is_closed else [])
     shown, size = set(near), whole * 0.022
     drawn = [f'<circle cx="{x}" cy="{y}" r="{whole * 0.008:g}" fill="#000"/>' for x, y in near]
     for a, b in zip(points, points[1:]):

@@ -118,6 +118,11 @@ class OpenTile {
     return answer === null ? { status: NO_MEMORY } : explainedOf(answer);
   }
 
+  /** What there is round the fault of a refused tile, as JSON: around.py says what. */
+  around() {
+    return this.#call('around');
+  }
+
   /** The canonical bytes. */
   rewrite() {
     return this.#call('rewrite');

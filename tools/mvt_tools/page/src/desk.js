@@ -1,17 +1,16 @@
 // The tile that is open, and what the page may ask of it. It lives in the worker, so that nothing here makes the page wait.
 import { Gone, NO_LAYER, OK } from './codec.js';
 import { firstDifference } from './differ.js';
-import { faultyShape } from './faulty.js';
 import { FeatureTable } from './features.js';
 import { prepared, readFile } from './files.js';
 import { JsonIndex } from './json-index.js';
 import { allJudged, judged, readRows } from './judging.js';
-import { integersRound } from './locate.js';
 import { Finder } from './near.js';
 import { Painter } from './painter.js';
 import { Findings } from './remarks.js';
 import { SHAPES } from './rows.js';
 import { styled } from './styled.js';
+import { text } from './text.js';
 
 /** So many bytes, or so many files, are judged by one question. */
 const ASKED_BYTES = 1 << 20;
@@ -52,15 +51,15 @@ export class Desk {
     this.#tile = this.#codec.open(read.bytes);
     const { verdict, facts = null, why = null } = await this.#read(read, name);
     const { fault } = verdict;
-    const place = fault && (await this.#placeOf(fault));
-    const shape = fault && faultyShape(read.bytes, fault);
-    return { size, length: read.bytes.length, note: read.note, verdict, facts, why, place, shape };
+    const { shape = null, ...place } = fault ? await this.#placeOf() : {};
+    return { size, length: read.bytes.length, note: read.note, verdict, facts, why, place: fault && place, shape };
   }
 
-  async #placeOf(fault) {
-    const { place } = await this.#tile.explain();
-    if (place === undefined) throw new RangeError('there is no memory for it');
-    return { ...place, integers: integersRound(this.#bytes, fault) };
+  /** The place of the fault, with the integers round it and the shape of its feature. */
+  async #placeOf() {
+    const [{ place }, { status, bytes }] = [await this.#tile.explain(), await this.#tile.around()];
+    if (place === undefined || status !== OK) throw new RangeError('there is no memory for it');
+    return { ...place, ...JSON.parse(text(bytes)) };
   }
 
   /** The bytes of a source that are to be judged, `read`, and the size of all of it. */

@@ -1,8 +1,8 @@
-// The fields of a message of Protocol Buffers, as far as they can be split, to show what they hold. Nothing is judged here,
-// and no fault is looked for: that is the library's.
+// The fields of a message of Protocol Buffers, as far as they can be split, to say where two spellings differ. Nothing is
+// judged here, and no fault is looked for: that is the library's.
 
 /** The numbers of the fields that tiles know, by the message that has them. */
-export const FIELD = {
+const FIELD = {
   tile: { layer: 3 },
   layer: { name: 1, feature: 2, key: 3, value: 4, extent: 5, version: 15 },
   feature: { id: 1, tags: 2, type: 3, geometry: 4 },
@@ -14,7 +14,7 @@ export const NAMES = Object.fromEntries(Object.entries(FIELD).map(([message, fie
   [message, Object.fromEntries(Object.entries(fields).map(([name, number]) => [number, name]))]));
 
 /** Wire types. */
-export const WIRE = { varint: 0, fixed64: 1, bytes: 2, fixed32: 5 };
+const WIRE = { varint: 0, fixed64: 1, bytes: 2, fixed32: 5 };
 
 /** A varint at an offset: `{value, end}`; null where it doesn't end before `end`. Above 2^53 the value is rounded. */
 export function varint(bytes, at, end) {
@@ -68,29 +68,9 @@ export function* fieldsOf(bytes, start, end) {
   }
 }
 
-/** The field of a number that holds bytes and has an index among its like; null where there is none. */
-export function nthField(bytes, message, number, index) {
-  let seen = 0;
-  for (const field of fieldsOf(bytes, message.body, message.end)) {
-    if (field.number !== number || field.wire !== WIRE.bytes) continue;
-    if (seen === index) return field;
-    seen += 1;
-  }
-  return null;
-}
-
 /** The whole input as a message. */
 export function wholeOf(bytes) {
   return { at: 0, body: 0, end: bytes.length };
-}
-
-/** The integers of a feature's tags or geometry, by the field's number, each with its bytes; packed and unpacked ones are joined. */
-export function* integersOf(bytes, feature, number) {
-  for (const field of fieldsOf(bytes, feature.body, feature.end)) {
-    if (field.number !== number) continue;
-    if (field.wire === WIRE.varint && field.whole) yield { value: field.value, start: field.body, end: field.end };
-    if (field.wire === WIRE.bytes) yield* packedOf(bytes, field);
-  }
 }
 
 /** The integers of a packed field; where one doesn't end, the last has the value null. */

@@ -4,7 +4,7 @@ import { foreign } from './foreign.js';
 import { HexView } from './hex.js';
 import { shapeOf } from './shape.js';
 import { grouped } from './text.js';
-import { faultLine, sayHolders, sayPlace } from './words.js';
+import { faultLine, sayHolders, sayMeaning, sayPlace } from './words.js';
 
 /** The parts of the page about a fault. */
 export function showFault(bytes, { fault, other }, { place, shape }, rules) {
@@ -29,14 +29,17 @@ export function showFault(bytes, { fault, other }, { place, shape }, rules) {
   ];
 }
 
-function showIntegers({ list, rows }) {
+function showIntegers(integers) {
+  const { list, rows } = integers;
   if (rows.length === 0) return '';
-  const entries = rows.map(({ index, value, meaning, key, isFault }) =>
-    element('tr', isFault ? { class: 'fault', 'aria-current': 'true' } : {}, [
-      element('th', { scope: 'row' }, [grouped(index)]),
-      element('td', {}, [isFault ? element('mark', {}, [grouped(value)]) : grouped(value)]),
-      element('td', {}, [meaning, ...(key === null ? [] : [' “', foreign(key, 60), '”'])]),
-    ]));
+  const entries = rows.map((row) => {
+    const isFault = row.index === integers.index;
+    return element('tr', isFault ? { class: 'fault', 'aria-current': 'true' } : {}, [
+      element('th', { scope: 'row' }, [grouped(row.index)]),
+      element('td', {}, [isFault ? element('mark', {}, [grouped(row.value)]) : grouped(row.value)]),
+      element('td', {}, [sayMeaning(row, integers), ...(row.key === null ? [] : [' “', foreign(row.key, 60), '”'])]),
+    ]);
+  });
   const heads = ['index', list === 'tags' ? 'tag' : 'integer', 'meaning'].map((head) => element('th', { scope: 'col' }, [head]));
   return element('table', { class: 'integers' }, [
     element('caption', {}, [`The ${list} round the fault`]),

@@ -8,7 +8,7 @@ const FAULT = { light: '#c21807', dark: '#ff8d7a' };
 /** Arrows show where to, where there are few steps. */
 const ARROWS = 60;
 
-/** A figure of a shape (faulty.js). */
+/** A figure of a shape (around.py). */
 export function shapeOf(shape) {
   const { count, mark } = shape;
   const before = count === 0 ? 'It has no position before the fault.' : `The feature up to its fault: ${counted(count, 'position')}.`;

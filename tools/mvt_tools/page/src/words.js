@@ -1,7 +1,7 @@
 // Faults in few words, and their places. The causes and their numbers are those of docs/FORMAT.md; the sentences come from
 // the library.
 import { foreign } from './foreign.js';
-import { counted, grouped, offsetText } from './text.js';
+import { counted, grouped, offsetText, signed } from './text.js';
 
 /** Each cause in a few words, for lists. */
 export const BRIEF = {
@@ -46,6 +46,19 @@ export function sayPlace({ start, end, integers }) {
   const noun = list === 'tags' ? 'tag' : 'integer';
   if (value === null) return `${range}. In all: ${counted(count, noun)}.`;
   return `${range}: the ${noun} of index ${grouped(index)} in the ${list}, counted from 0, which is ${grouped(value)}.`;
+}
+
+/** What an integer means: of tags whose index it is, of a geometry what it draws; nothing behind the fault. */
+export function sayMeaning({ index, value, step }, { list, keys }) {
+  if (list === 'geometry') return step === null ? '' : sayStep(value, step);
+  if (index % 2 === 1) return 'index of a value';
+  return value < keys ? 'index of a key:' : `index of a key; there are ${keys}`;
+}
+
+function sayStep(value, { command, axis, move, to }) {
+  if (command === null) return `no command: the id is ${value % 8}`;
+  if (axis === null) return `${command}, count ${grouped(Math.floor(value / 8))}`;
+  return `d${axis.toUpperCase()} ${move < 0 ? '' : '+'}${signed(move)} of ${command}, to ${axis} = ${signed(to)}`;
 }
 
 /** The layer and the feature of a fault, by name and id where they have such; nothing where it is in no layer. */
