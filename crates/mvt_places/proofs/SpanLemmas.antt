@@ -5,7 +5,7 @@ use Rattle.std.specs.List.{flat_map, last_or}
 use Rattle.std.proofs.lemmas.List.{length-take-le, length-drop, take-append-drop, take_rest}
 use Rattle.mvt_wire.specs.Field.{Entry}
 use Rattle.mvt_wire.specs.Fronts.{number_at}
-use Rattle.mvt_wire.specs.Split.{Parts, split}
+use Rattle.mvt_wire.specs.Split.{Parts}
 use Rattle.mvt_feature.specs.Selection.{only}
 use Rattle.mvt_places.specs.Messages.{Message, span}
 use Rattle.mvt_wire.specs.Varint.{Spells, SpellsNone}

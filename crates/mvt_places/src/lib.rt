@@ -1,6 +1,7 @@
 //! Where a fault stands in the bytes of a tile, and what it means in plain words.
 #![tactic(auto)]
 
+mod brotli;
 mod explaining;
 pub mod laws;
 mod locating;
@@ -8,6 +9,7 @@ mod lookalike;
 mod message;
 mod numbers;
 mod place;
+mod plain_text;
 mod sentences;
 mod span;
 mod target;
