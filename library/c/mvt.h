@@ -434,8 +434,37 @@ const char *mvt_cause_text(uint32_t cause);
 const char *mvt_note_text(uint32_t note);
 const char *mvt_finding_text(uint32_t finding);
 
+/* What bytes look like that are no tile. */
+typedef enum {
+    MVT_LOOKALIKE_GZIP = 1,
+    MVT_LOOKALIKE_ZLIB = 2,
+    MVT_LOOKALIKE_ZSTD = 3,
+    MVT_LOOKALIKE_PNG = 4,
+    MVT_LOOKALIKE_SQLITE = 5,       /* a database that isn't seen to be MBTiles */
+    MVT_LOOKALIKE_PMTILES = 6,
+    MVT_LOOKALIKE_JSON = 7,
+    MVT_LOOKALIKE_HTML = 8,
+    MVT_LOOKALIKE_JPEG = 9,
+    MVT_LOOKALIKE_GIF = 10,
+    MVT_LOOKALIKE_WEBP = 11,
+    MVT_LOOKALIKE_FLAT_GEOBUF = 12,
+    MVT_LOOKALIKE_XZ = 13,
+    MVT_LOOKALIKE_BZIP2 = 14,
+    MVT_LOOKALIKE_ZIP = 15,
+    MVT_LOOKALIKE_PDF = 16,
+    MVT_LOOKALIKE_OSM_PBF = 17,     /* data of OpenStreetMap */
+    MVT_LOOKALIKE_XML = 18,         /* behind a byte order mark or white space; else it counts as HTML */
+    MVT_LOOKALIKE_PLAIN_TEXT = 19,
+    MVT_LOOKALIKE_BROTLI = 20,      /* has no mark: its first block is longer than the bytes */
+    MVT_LOOKALIKE_MBTILES = 21
+} mvt_lookalike;
+
+/* What refused bytes look like, an mvt_lookalike, or 0 if they may be meant as a tile. Pass all of them, or at least the first
+ * 65,536. Of an accepted tile it says nothing. */
+int mvt_looks_like(const uint8_t *bytes, size_t len);
+
 /* A fault in a sentence or two. Pass the refused bytes, or the first few of them: if they look like gzip, zlib, zstd, PNG,
- * SQLite, PMTiles, JSON or HTML, the text says so. */
+ * SQLite, PMTiles, JSON or HTML, or else like something that mvt_lookalike names, the text says so. */
 const char *mvt_explain(const uint8_t *bytes, size_t len, const mvt_fault *fault);
 
 /* Where a fault stands in the refused bytes: the layer's name, which points into these bytes and may not be UTF-8, the

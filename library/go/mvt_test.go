@@ -365,6 +365,15 @@ func TestADecoderKnowsWhatLooksCompressed(t *testing.T) {
 	same(t, "place", known, false)
 }
 
+func TestWhatBytesLookLike(t *testing.T) {
+	kind, known := mvt.LooksLike([]byte("GIF89a"))
+	same(t, "a picture", []any{kind, known, kind.String()}, []any{mvt.LookalikeGif, true, "Gif"})
+	_, known = mvt.LooksLike([]byte(nowhere))
+	same(t, "a broken tile", known, false)
+	_, known = mvt.LooksLike(nil)
+	same(t, "nothing", known, false)
+}
+
 // The layer a with a feature of id 7 whose line goes nowhere.
 const nowhere = "\x1a\x13\x78\x02\x0a\x01a\x12\x0c\x08\x07\x18\x02\x22\x06\x09\x00\x00\x0a\x00\x00"
 

@@ -83,3 +83,28 @@ const (
 	RoleLineY     Role = 6
 	RoleClosePath Role = 7
 )
+
+// The lookalikes.
+const (
+	LookalikeGzip       Lookalike = 1
+	LookalikeZlib       Lookalike = 2
+	LookalikeZstd       Lookalike = 3
+	LookalikePng        Lookalike = 4
+	LookalikeSqlite     Lookalike = 5
+	LookalikePmtiles    Lookalike = 6
+	LookalikeJson       Lookalike = 7
+	LookalikeHtml       Lookalike = 8
+	LookalikeJpeg       Lookalike = 9
+	LookalikeGif        Lookalike = 10
+	LookalikeWebp       Lookalike = 11
+	LookalikeFlatGeobuf Lookalike = 12
+	LookalikeXz         Lookalike = 13
+	LookalikeBzip2      Lookalike = 14
+	LookalikeZip        Lookalike = 15
+	LookalikePdf        Lookalike = 16
+	LookalikeOsmPbf     Lookalike = 17
+	LookalikeXml        Lookalike = 18
+	LookalikePlainText  Lookalike = 19
+	LookalikeBrotli     Lookalike = 20
+	LookalikeMbtiles    Lookalike = 21
+)

@@ -52,6 +52,18 @@ type Finding struct {
 // Sentence says the finding in plain words, and what happens in which viewer.
 func (f Finding) Sentence() string { return C.GoString(C.mvt_finding_text(C.uint32_t(f.Kind))) }
 
+// Lookalike is what bytes look like that are no tile. Its text is its name.
+type Lookalike uint32
+
+func (l Lookalike) String() string { return nameOf(lookalikeNames[l], uint32(l)) }
+
+// LooksLike says what refused bytes look like, and false if they may be meant as a tile. Of an accepted tile it says
+// nothing.
+func LooksLike(tile []byte) (Lookalike, bool) {
+	kind := C.mvt_looks_like(start(tile), C.size_t(len(tile)))
+	return Lookalike(kind), kind != 0
+}
+
 func nameOf(name string, number uint32) string {
 	if name == "" {
 		return fmt.Sprint(number)

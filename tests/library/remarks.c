@@ -100,6 +100,9 @@ static void refused(const uint8_t *bytes, size_t len, const mvt_fault *first) {
     }
     require(memcmp(&summary, &no_summary, sizeof summary) == 0 && memcmp(&findings, &no_findings, sizeof findings) == 0,
             "an output that isn't due is touched");
+    const int kind = mvt_looks_like(bytes, len);
+    require(kind >= 0 && kind <= MVT_LOOKALIKE_MBTILES, "what the bytes look like");
+    require((strncmp(mvt_explain(bytes, len, first), "This isn't a tile, but looks like ", 34) == 0) == (kind != 0), "its sentence");
 }
 
 static void look(const char *path) {
@@ -136,8 +139,45 @@ static void texts(void) {
     require(strcmp(version, MVT_VERSION) == 0, "the numbers of the version");
 }
 
+/* What bytes look like, each begun by a mark; and that they may be meant as a tile. */
+static void looks(void) {
+    static const struct {
+        int kind;
+        size_t len;
+        const char *bytes;
+    } rows[] = {{MVT_LOOKALIKE_GZIP, 2, "\x1f\x8b"},
+                {MVT_LOOKALIKE_ZLIB, 2, "\x78\x9c"},
+                {MVT_LOOKALIKE_ZSTD, 5, "\x28\xb5\x2f\xfd\x04"},
+                {MVT_LOOKALIKE_PNG, 8, "\x89PNG\r\n\x1a\n"},
+                {MVT_LOOKALIKE_SQLITE, 16, "SQLite format 3"},
+                {MVT_LOOKALIKE_PMTILES, 8, "PMTiles\x03"},
+                {MVT_LOOKALIKE_JSON, 13, "{\"layers\":[]}"},
+                {MVT_LOOKALIKE_JSON, 9, "\xef\xbb\xbf[true]"},
+                {MVT_LOOKALIKE_HTML, 22, "\n<!DOCTYPE html><html>"},
+                {MVT_LOOKALIKE_HTML, 28, "<?xml version=\"1.0\"?><Error>"},
+                {MVT_LOOKALIKE_JPEG, 4, "\xff\xd8\xff\xe0"},
+                {MVT_LOOKALIKE_GIF, 6, "GIF87a"},
+                {MVT_LOOKALIKE_WEBP, 16, "RIFF\0\0\0\0WEBPVP8 "},
+                {MVT_LOOKALIKE_FLAT_GEOBUF, 8, "fgb\x03" "fgb\x01"},
+                {MVT_LOOKALIKE_XZ, 6, "\xfd" "7zXZ"},
+                {MVT_LOOKALIKE_BZIP2, 4, "BZh9"},
+                {MVT_LOOKALIKE_ZIP, 4, "PK\x03\x04"},
+                {MVT_LOOKALIKE_PDF, 8, "%PDF-1.7"},
+                {MVT_LOOKALIKE_OSM_PBF, 15, "\0\0\0\x0d\n\tOSMHeader"},
+                {MVT_LOOKALIKE_XML, 16, "\xef\xbb\xbf<?xml version"},
+                {MVT_LOOKALIKE_PLAIN_TEXT, 18, "404 page not found"},
+                {MVT_LOOKALIKE_BROTLI, 20, "\x1b\x14\0\0\x9c" "0123456789ABCDE"},
+                {MVT_LOOKALIKE_MBTILES, 27, "SQLite format 3\0tile_column"},
+                {0, 7, "\x1a\x03\x0a\x09" "ax\x02"},
+                {0, 3, "abc"}};
+    for (size_t i = 0; i < sizeof rows / sizeof *rows; ++i)
+        require(mvt_looks_like((const uint8_t *)rows[i].bytes, rows[i].len) == rows[i].kind, rows[i].bytes);
+    require(mvt_looks_like(NULL, 0) == 0, "no bytes look like nothing");
+}
+
 int main(int argc, char **argv) {
     texts();
+    looks();
     mvt_summary_free(NULL);
     mvt_findings_free(NULL);
     for (int i = 1; i < argc; ++i) look(argv[i]);

@@ -8,6 +8,7 @@ import unittest
 from pathlib import Path
 
 import mvt
+from mvt._numbers import LOOKALIKES
 
 sys.path.insert(0, str(Path(__file__).resolve().parents[1] / "program"))
 import places
@@ -33,6 +34,18 @@ class Places(unittest.TestCase):
                 self.assertTrue(why.explanation.endswith(sentence))
         print(f"places: {refused} refused tiles")
         self.assertGreater(refused, len(TILES) / 2)
+
+    def test_what_each_looks_like(self):
+        seen = set()
+        for name, tile in places.tiles(TILES):
+            kind = mvt.looks_like(tile)
+            self.assertEqual(kind, places.looks_like(tile), name)
+            seen.add(kind)
+        self.assertEqual(seen, {None, *LOOKALIKES.values()})
+
+    def test_what_heads_look_like(self):
+        for head in places.heads(20_000):
+            self.assertEqual(mvt.looks_like(head), places.looks_like(head), head)
 
     def test_each_cause_has_its_sentence(self):
         causes = {int(cause) for cause in places.re.findall(r"^\| (\d+) \|", (places.TOP / "docs/FORMAT.md").read_text(), places.re.M)}

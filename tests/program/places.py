@@ -5,8 +5,10 @@ shares no code with the program. The rows of bytes are read back and compared wi
 fixtures/tiles/broken/explained.txt. test_fault_places.py asks the program, tests/library/test_places.py and
 tests/tools/page/test_places.py ask the library and the page."""
 
+import bz2
 import gzip
 import json
+import lzma
 import random
 import re
 import zlib
@@ -20,17 +22,49 @@ TOP = Path(__file__).resolve().parents[2]
 LIMIT = 1 << 26
 LAYER, FEATURE, VALUE, NAME, ID, TAGS, GEOMETRY = 3, 2, 4, 1, 1, 2, 4
 LINE = re.compile(r"layer (\S+) feature (\S+) at (\d+): (\d+) \w+\n")
-# How inputs begin that are no tiles, zlib's apart.
-FRONTS = [
-    ("gzip", b"\x1f\x8b"),
-    ("zstd", b"\x28\xb5\x2f\xfd"),
-    ("PNG", b"\x89PNG"),
-    ("SQLite", b"SQLite format 3"),
-    ("PMTiles", b"PMTiles"),
-    ("JSON", b"{"),
-    ("JSON", b"["),
-    ("HTML", b"<"),
+# What inputs are that are no tiles and have a mark, zlib and MBTiles apart: the place of the mark, and the mark.
+MARKS = [
+    ("Gzip", 0, b"\x1f\x8b"),
+    ("Zstd", 0, b"\x28\xb5\x2f\xfd"),
+    ("Png", 0, b"\x89PNG"),
+    ("Sqlite", 0, b"SQLite format 3"),
+    ("Pmtiles", 0, b"PMTiles"),
+    ("Json", 0, b"{"),
+    ("Json", 0, b"["),
+    ("Html", 0, b"<"),
+    ("Jpeg", 0, b"\xff\xd8\xff"),
+    ("Gif", 0, b"GIF8"),
+    ("FlatGeobuf", 0, b"fgb\x03"),
+    ("Xz", 0, b"\xfd7zXZ"),
+    ("Bzip2", 0, b"BZh"),
+    ("Zip", 0, b"PK\x03\x04"),
+    ("Pdf", 0, b"%PDF-"),
+    ("OsmPbf", 4, b"\n\tOSMHeader"),
 ]
+# How a sentence calls them.
+WORDS = {
+    "Gzip": "gzip",
+    "Zlib": "zlib",
+    "Zstd": "zstd",
+    "Png": "a PNG picture",
+    "Sqlite": "a SQLite database, as MBTiles are",
+    "Mbtiles": "a SQLite database, as MBTiles are",
+    "Pmtiles": "a PMTiles archive",
+    "Json": "JSON",
+    "Html": "HTML",
+    "Jpeg": "a JPEG picture",
+    "Gif": "a GIF picture",
+    "Webp": "a WebP picture",
+    "FlatGeobuf": "a FlatGeobuf file",
+    "Xz": "xz",
+    "Bzip2": "bzip2",
+    "Zip": "a ZIP archive",
+    "Pdf": "a PDF document",
+    "OsmPbf": r"OpenStreetMap data \(PBF\), which has no tiles",
+    "Xml": "XML",
+    "PlainText": "plain text",
+    "Brotli": "brotli",
+}
 
 
 class Fault(NamedTuple):
@@ -180,10 +214,48 @@ def bytes_of(tile, fault, top, layer, feature, own):
 
 
 def looks_like(tile):
-    """What an input looks like that is no tile. RFC 1950 has zlib's head."""
+    """What an input looks like that is no tile, by its name in mvt_lookalike, or None. RFC 1950 has zlib's head."""
     if len(tile) > 1 and tile[0] & 0x8F == 8 and int.from_bytes(tile[:2], "big") % 31 == 0:
-        return "zlib"
-    return next((kind for kind, front in FRONTS if tile.startswith(front)), None)
+        return "Zlib"
+    if tile.startswith(b"SQLite format 3") and b"tile_column" in tile[:65_536]:
+        return "Mbtiles"
+    if re.match(b"RIFF.{4}WEBP", tile, re.DOTALL):
+        return "Webp"
+    marked = (kind for kind, at, mark in MARKS if tile[at:].startswith(mark))
+    return next(marked, None) or text_like(tile) or ("Brotli" if brotli_like(tile) else None)
+
+
+def text_like(tile):
+    """Which text an input is, by its first 512 bytes."""
+    start = tile[:512]
+    if len(tile) < 4 or not re.fullmatch(rb"[\t\n\r\x20-\x7e\x80-\xff]*", start) or not re.search(b"[A-Za-z]{2}", start):
+        return None
+    bare = start.removeprefix(b"\xef\xbb\xbf").lstrip(b"\t\n\r ")
+    kinds = (("Xml", b"<?xml"), ("Html", b"<"), ("Json", b"{"), ("Json", b"["))
+    return next((kind for kind, front in kinds if bare.startswith(front)), "PlainText")
+
+
+def brotli_like(tile):
+    """Whether an input begins with a window and a compressed block, which is longer than the input, but less than 200 times:
+    RFC 7932, 9.1 and 9.2, read bit by bit."""
+    bits = iter(format(int.from_bytes(tile[:8], "little"), "064b")[::-1])
+
+    def read(count):
+        return sum(int(next(bits)) << place for place in range(count))
+
+    if len(tile) < 20 or (read(1) == 1 and read(3) == 0 and read(3) == 1):
+        return False
+    is_last = read(1) == 1
+    if is_last and read(1) == 1:
+        return False
+    digits = 4 + read(2)
+    if digits == 7:
+        return False
+    length = [read(4) for _ in range(digits)]
+    if (digits > 4 and length[-1] == 0) or (not is_last and read(1) == 1):
+        return False
+    block = 1 + sum(digit << 4 * place for place, digit in enumerate(length))
+    return len(tile) < block < 200 * len(tile)
 
 
 def documented():
@@ -200,8 +272,8 @@ def documented():
 def sentence_fails(tile, cause, sentence, sentences):
     """Whether a sentence isn't what an input looks like that is no tile, or else that of the cause."""
     kind = looks_like(tile)
-    wanted = rf"This isn't a tile, but looks like (an? )?{kind}\b.*" if kind else re.escape(sentences[cause])
-    return not re.fullmatch(wanted, sentence)
+    wanted = rf"This isn't a tile, but looks like {WORDS[kind]}\b.*" if kind else re.escape(sentences[cause])
+    return not re.fullmatch(wanted, sentence) or ("`mvt-audit` judges each tile" in sentence) != (kind == "Mbtiles")
 
 
 def fault_of(line):
@@ -321,19 +393,64 @@ def piecewise(chance):
     return spelled(LAYER, spelled(15, 2) + b"".join(names) + features + keys + values)
 
 
-# Inputs that are no tiles, by what they are.
+# Inputs that are no tiles, by what they are. Of brotli there is the head alone, as Node.js makes it.
 NO_TILES = {
     "gzip": gzip.compress(b"tile"),
     "zlib": zlib.compress(b"tile"),
     "zstd": b"\x28\xb5\x2f\xfd\x24\x04\x21\x00\x00tile",
     "PNG": b"\x89PNG\r\n\x1a\n\x00\x00\x00\rIHDR",
     "SQLite": b"SQLite format 3\0\x10\x00",
+    "a large database": b"SQLite format 3\0".ljust(1 << 20),
+    "MBTiles": b"SQLite format 3\0".ljust(916) + b"zoom_level integer, tile_column integer",
+    "a large store": b"SQLite format 3\0".ljust(60_000) + b"tile_column".ljust(1 << 20),
+    "a column that is just near enough": b"SQLite format 3\0".ljust(65_525) + b"tile_column",
+    "a column that is too far": b"SQLite format 3\0".ljust(65_526) + b"tile_column",
     "PMTiles": b"PMTiles\x03",
     "JSON": b'{"layers": []}',
     "a list in JSON": b"[1]",
+    "JSON behind a byte order mark": b'\xef\xbb\xbf{"type": "FeatureCollection"}',
+    "JSON behind white space": b'\r\n\t [{"id": 1}]',
     "HTML": b"<!DOCTYPE html>",
+    "HTML behind a line feed": b"\n<!DOCTYPE html><html>",
+    "XML": b'<?xml version="1.0"?><Error>',
+    "XML behind a byte order mark": b'\xef\xbb\xbf<?xml version="1.0"?><Error>',
+    "JPEG": b"\xff\xd8\xff\xe0",
+    "GIF": b"GIF89a\x01\x00",
+    "WebP": b"RIFF\0\0\0\0WEBPVP8 ",
+    "a sound": b"RIFF\0\0\0\0WAVEfmt ",
+    "FlatGeobuf": b"fgb\x03fgb\x01",
+    "xz": lzma.compress(b"tile"),
+    "bzip2": bz2.compress(b"tile"),
+    "ZIP": b"PK\x03\x04\x14\0",
+    "PDF": b"%PDF-1.7\n%\xe2\xe3\xcf\xd3\n",
+    "OpenStreetMap data": b"\0\0\0\x0d\n\tOSMHeader\x18\x7c",
+    "plain text": b"404 page not found",
+    "a text in UTF-8": "Straße;Länge\r\n".encode(),
+    "a long text": b"name;id\n" * 100_000,
+    "too little of a text": b"abc",
+    "a text without letters": b"12.5;a7\n",
+    "a text with a zero": b"not found\0",
+    "brotli of gdal.mvt": bytes.fromhex("1bf20120e4720ddb").ljust(398, b"\0"),
+    "brotli of gdal.json": bytes.fromhex("1bf105002c0a6c1b").ljust(483, b"\0"),
+    "brotli of town.geojson": bytes.fromhex("1b6d07009c05762c").ljust(452, b"\0"),
+    "brotli of postgis.mvt": bytes.fromhex("1b0702608cd451cd").ljust(414, b"\0"),
+    "brotli of 70,000 bytes": bytes.fromhex("5f6f11815f522c6c").ljust(2338, b"\0"),
+    "brotli with a window of 16 bits": bytes.fromhex("ea2d22f04b8a858d").ljust(2337, b"\0"),
+    "brotli with a window of 10 bits": bytes.fromhex("21fcffc32f291636").ljust(14_580, b"\0"),
+    "brotli of point.mvt, which is stored": bytes.fromhex("0b09801a1178020a0161120a08071801220409322229").ljust(23, b"\x03"),
     "nothing that is known": b"\xff" * 40,
 }
+
+
+def heads(count):
+    """So many inputs that begin as files do, or nearly so; the same ones each time."""
+    chance = random.Random(2)
+    marks = [bytes(at) + mark for _, at, mark in MARKS]
+    marks += [b"RIFF\0\0\0\0WEBP", b"\xef\xbb\xbf", b"\r\n\t ", b"<?xml", b"SQLite format 3\0tile_column"]
+    for _ in range(count):
+        head = b"".join(chance.choice(marks) for _ in range(chance.randrange(3)))
+        rest = bytes(chance.choice(b"aZ \n<{[5;\xc3\x1a\0") for _ in range(chance.randrange(600)))
+        yield head[: chance.randint(0, len(head))] + (chance.randbytes(chance.randrange(60)) if chance.random() < 0.5 else rest)
 
 
 def in_many_pieces(count):

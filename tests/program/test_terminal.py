@@ -26,6 +26,19 @@ LOOKS = {
     HTML: "it looks like HTML, as a server's page about an error",
     b"\x89PNG\r\n": "it looks like a PNG picture",
     b'{"type": 1}': "it looks like JSON",
+    b"SQLite format 3\0" + b"CREATE TABLE tiles (tile_column)": "it looks like MBTiles: mvt-tile {} Z/X/Y | mvt check",
+    b"\xff\xd8\xff\xe0": "it looks like a JPEG picture",
+    b"GIF89a": "it looks like a GIF picture",
+    b"RIFF\0\0\0\0WEBP": "it looks like a WebP picture",
+    b"fgb\x03": "it looks like FlatGeobuf",
+    b"\xfd7zXZ\0": "it looks like xz: xz -dc {} | mvt check",
+    b"BZh9": "it looks like bzip2: bzip2 -dc {} | mvt check",
+    b"PK\x03\x04": "it looks like a ZIP archive: unzip -p {} NAME | mvt check",
+    b"%PDF-1.7": "it looks like a PDF document",
+    b"\0\0\0\x0d\n\tOSMHeader": "it looks like OpenStreetMap data (PBF)",
+    b"\xef\xbb\xbf<?xml": "it looks like XML, as a server's message about an error",
+    b"404 page not found": "it looks like plain text, as a server's message about an error",
+    b"\x1b\x6d\x07" + bytes(449): "it looks like brotli: brotli -dc {} | mvt check",
 }
 
 

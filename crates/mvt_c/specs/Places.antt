@@ -1,10 +1,12 @@
--- The place of a fault that C hands back, and the sentence that is said of it.
+-- The place of a fault that C hands back, the sentence that is said of it, and the number of what the bytes look like.
 use Rattle.std.specs.Prelude.{◌≡◌, ℕ, ℤ, pos, negsuc, ◌⊎◌, List, [], ◌∷◌, ◌++◌, length, min, Option, Some, None}
 use Rattle.std.specs.Option.{unwrap_or}
 use Rattle.mvt_base.specs.declared.TheConstants.{LIMIT}
 use Rattle.mvt_feature.specs.declared.cause.Cause.{Cause}
 use Rattle.mvt_feature.specs.Causes.{cause_number}
 use Rattle.mvt_tile.specs.declared.fault.Fault.{Fault as TileFault}
+use Rattle.mvt_places.specs.declared.lookalike.Lookalike.{Lookalike}
+use Rattle.mvt_places.specs.Lookalikes.{lookalike_number}
 use Rattle.mvt_places.specs.Places.{layer_name_at, feature_id_at, place_at}
 use Rattle.mvt_places.specs.Sentences.{sentence_for}
 use Rattle.mvt_c.specs.declared.fault.Fault.{Fault}
@@ -52,3 +54,8 @@ IsLocated input given place =
 abbrev pub IsExplained : List ℕ → Fault → List ℕ → Type 0
 IsExplained input given text =
     (fault : TileFault) × IsGiven given fault × (text ≡ sentence_for input fault.cause ++ 0 ∷ [])
+
+-- the number of what the bytes look like, 0 if that is nothing else
+abbrev pub look_number : Option Lookalike → ℕ
+look_number (Some lookalike) = lookalike_number lookalike
+look_number None = 0

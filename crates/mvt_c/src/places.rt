@@ -1,14 +1,15 @@
-//! Where the fault of refused bytes stands, and what is said of it.
+//! Where the fault of refused bytes stands, what is said of it, and what they look like.
 ghost use Rattle.std.specs.Prelude.{◌≡◌, ◌≤◌, length, None, IfSome};
 ghost use Rattle.std.specs.Option.{option_copied};
 ghost use Rattle.mvt_base.specs.declared.TheConstants.{LIMIT};
 ghost use Rattle.mvt_feature.specs.Causes.{cause_number};
 ghost use Rattle.mvt_c.specs.Places as spec;
-ghost use Rattle.mvt_c.specs.Places.{IsExplained, IsGiven, IsLocated, IsPlace, IsPlaceOf, LacksCause};
+ghost use Rattle.mvt_c.specs.Places.{IsExplained, IsGiven, IsLocated, IsPlace, IsPlaceOf, LacksCause, look_number};
+ghost use Rattle.mvt_places.specs.Lookalikes.{lookalike_of};
 
 use crate::fault::Fault;
 use crate::lent::Bytes;
-use mvt_places::{Place as TilePlace, locate, sentence_with_zero};
+use mvt_places::{Place as TilePlace, locate, looks_like, sentence_with_zero};
 use mvt_tile::{Cause, Fault as TileFault};
 
 /// The place of a fault: the name of its layer, which is a part of the refused bytes, the id of its
@@ -78,6 +79,18 @@ pub extern "C" fn mvt_held_sentence(bytes: &[u8], fault: &Fault, out: &mut Bytes
             };
             1
         }
+        None => 0,
+    }
+}
+
+/// The number of what refused bytes look like (`mvt_looks_like`), or 0 where they may be meant as a
+/// tile.
+#[unsafe(no_mangle)]
+pub extern "C" fn mvt_looks_like(bytes: &[u8]) -> u32
+    ensures { result ≡ look_number (lookalike_of bytes.now) }
+{
+    match looks_like(bytes) {
+        Some(lookalike) => lookalike.number(),
         None => 0,
     }
 }

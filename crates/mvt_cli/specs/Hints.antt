@@ -3,7 +3,7 @@ use Rattle.std.specs.Prelude.{ℕ, ◌==◌, ◌||◌, Bool, List, [], ◌++◌,
 use Rattle.std.specs.declared.io.ErrorKind.TheVariants.{NotFound, PermissionDenied, IsADirectory}
 use Rattle.mvt_places.specs.Lookalikes.{lookalike_of}
 use Rattle.mvt_places.specs.declared.lookalike.Lookalike.{Lookalike}
-use Rattle.mvt_places.specs.declared.lookalike.Lookalike.TheVariants.{Gzip, Zlib, Zstd, Png, Sqlite, Pmtiles, Json, Html}
+use Rattle.mvt_places.specs.declared.lookalike.Lookalike.TheVariants.{Gzip, Zlib, Zstd, Png, Sqlite, Pmtiles, Json, Html, Jpeg, Gif, Webp, FlatGeobuf, Xz, Bzip2, Zip, Pdf, OsmPbf, Xml, PlainText, Brotli, Mbtiles}
 use Rattle.mvt_cli.specs.declared.hints.Oddity.{Oddity}
 use Rattle.mvt_cli.specs.declared.hints.Oddity.TheVariants.{Looks, Unread}
 
@@ -15,16 +15,60 @@ look_of (Some lookalike) = Some (Looks lookalike)
 abbrev pub odd_begin : Bool → List ℕ → Option Oddity → Option Oddity
 odd_begin is_begun bytes oddity = if is_begun || (length bytes == 0) then oddity else look_of (lookalike_of bytes)
 
+-- what an input looks like, in words
+unfoldable pub name_of : Lookalike → List ℕ
+name_of Gzip = codes "gzip"
+name_of Zlib = codes "zlib"
+name_of Zstd = codes "zstd"
+name_of Png = codes "a PNG picture"
+name_of Sqlite = codes "MBTiles"
+name_of Pmtiles = codes "PMTiles"
+name_of Json = codes "JSON"
+name_of Html = codes "HTML, as a server's page about an error"
+name_of Jpeg = codes "a JPEG picture"
+name_of Gif = codes "a GIF picture"
+name_of Webp = codes "a WebP picture"
+name_of FlatGeobuf = codes "FlatGeobuf"
+name_of Xz = codes "xz"
+name_of Bzip2 = codes "bzip2"
+name_of Zip = codes "a ZIP archive"
+name_of Pdf = codes "a PDF document"
+name_of OsmPbf = codes "OpenStreetMap data (PBF)"
+name_of Xml = codes "XML, as a server's message about an error"
+name_of PlainText = codes "plain text, as a server's message about an error"
+name_of Brotli = codes "brotli"
+name_of Mbtiles = codes "MBTiles"
+
+-- the command that gives a tile of it
+unfoldable pub command_of : Lookalike → Option (List ℕ)
+command_of Gzip = Some (codes "gunzip -c")
+command_of Zlib = Some (codes "zlib-flate -uncompress <")
+command_of Zstd = Some (codes "zstd -dc")
+command_of Xz = Some (codes "xz -dc")
+command_of Bzip2 = Some (codes "bzip2 -dc")
+command_of Brotli = Some (codes "brotli -dc")
+command_of Zip = Some (codes "unzip -p")
+command_of Sqlite = Some (codes "mvt-tile")
+command_of Mbtiles = Some (codes "mvt-tile")
+command_of Pmtiles = Some (codes "mvt-tile")
+command_of _ = None
+
+-- what follows the file's name there: which tile of a store, and which file of an archive
+unfoldable pub part_of : Lookalike → List ℕ
+part_of Sqlite = codes " Z/X/Y"
+part_of Mbtiles = codes " Z/X/Y"
+part_of Pmtiles = codes " Z/X/Y"
+part_of Zip = codes " NAME"
+part_of _ = []
+
+abbrev pub remedy : Option (List ℕ) → List ℕ → List ℕ → List ℕ
+remedy None file part = codes "\n"
+remedy (Some command) file part = codes ": " ++ (command ++ (codes " " ++ (file ++ (part ++ codes " | mvt check\n"))))
+
 -- what can be done about an input, by its name
 unfoldable pub hint_of : List ℕ → Oddity → List ℕ
-hint_of file (Looks Gzip) = codes "mvt: it looks like gzip: gunzip -c " ++ (file ++ codes " | mvt check\n")
-hint_of file (Looks Zlib) = codes "mvt: it looks like zlib: zlib-flate -uncompress < " ++ (file ++ codes " | mvt check\n")
-hint_of file (Looks Zstd) = codes "mvt: it looks like zstd: zstd -dc " ++ (file ++ codes " | mvt check\n")
-hint_of file (Looks Sqlite) = codes "mvt: it looks like MBTiles: mvt-tile " ++ (file ++ codes " Z/X/Y | mvt check\n")
-hint_of file (Looks Pmtiles) = codes "mvt: it looks like PMTiles: mvt-tile " ++ (file ++ codes " Z/X/Y | mvt check\n")
-hint_of file (Looks Png) = codes "mvt: it looks like a PNG picture\n"
-hint_of file (Looks Json) = codes "mvt: it looks like JSON\n"
-hint_of file (Looks Html) = codes "mvt: it looks like HTML, as a server's page about an error\n"
+hint_of file (Looks lookalike) =
+    codes "mvt: it looks like " ++ (name_of lookalike ++ remedy (command_of lookalike) file (part_of lookalike))
 hint_of file (Unread NotFound) = codes "mvt: " ++ (file ++ codes ": there is no such file\n")
 hint_of file (Unread PermissionDenied) = codes "mvt: " ++ (file ++ codes ": no permission to read it\n")
 hint_of file (Unread IsADirectory) =

@@ -1,9 +1,10 @@
 //! What a person at a terminal is told below the program's lines: what an input looks like that is
 //! no tile, and why one can't be read.
 ghost use Rattle.std.specs.Prelude.{◌≡◌, Option, Some, IfOk, string_bytes};
-ghost use Rattle.std.specs.Option.{option_map};
+ghost use Rattle.std.specs.Option.{option_copied, option_map};
 ghost use Rattle.mvt_places.specs.Lookalikes.{lookalike_of};
-ghost use Rattle.mvt_cli.specs.Hints.{hint_of, look_of, odd_begin};
+ghost use Rattle.mvt_cli.specs.declared.hints.Oddity.TheVariants.{Looks};
+ghost use Rattle.mvt_cli.specs.Hints.{command_of, hint_of, look_of, name_of, odd_begin, part_of};
 
 use mvt_base::Text;
 use mvt_io::Source;
@@ -164,34 +165,7 @@ pub fn hint(alloc: Global, file: &str, oddity: Oddity) -> Result<String, AllocEr
     ensures { IfOk result (λ line. string_bytes line ≡ hint_of file.now oddity) }
 {
     match oddity {
-        Oddity::Looks(Lookalike::Gzip) => {
-            format!(in alloc; "mvt: it looks like gzip: gunzip -c {file} | mvt check\n")
-        }
-        Oddity::Looks(Lookalike::Zlib) => {
-            format!(in alloc;
-                "mvt: it looks like zlib: zlib-flate -uncompress < {file} | mvt check\n"
-            )
-        }
-        Oddity::Looks(Lookalike::Zstd) => {
-            format!(in alloc; "mvt: it looks like zstd: zstd -dc {file} | mvt check\n")
-        }
-        Oddity::Looks(Lookalike::Sqlite) => {
-            format!(in alloc; "mvt: it looks like MBTiles: mvt-tile {file} Z/X/Y | mvt check\n")
-        }
-        Oddity::Looks(Lookalike::Pmtiles) => {
-            format!(in alloc; "mvt: it looks like PMTiles: mvt-tile {file} Z/X/Y | mvt check\n")
-        }
-        Oddity::Looks(Lookalike::Png) => String::from_str(
-            alloc,
-            "mvt: it looks like a PNG picture\n",
-        ),
-        Oddity::Looks(Lookalike::Json) => String::from_str(alloc, "mvt: it looks like JSON\n"),
-        Oddity::Looks(Lookalike::Html) => {
-            String::from_str(
-                alloc,
-                "mvt: it looks like HTML, as a server's page about an error\n",
-            )
-        }
+        Oddity::Looks(lookalike) => look_hint(alloc, file, lookalike),
         Oddity::Unread(ErrorKind::NotFound) => {
             format!(in alloc; "mvt: {file}: there is no such file\n")
         }
@@ -202,5 +176,79 @@ pub fn hint(alloc: Global, file: &str, oddity: Oddity) -> Result<String, AllocEr
             format!(in alloc; "mvt: {file}: it is a folder: mvt-audit {file} --into audit\n")
         }
         Oddity::Unread(_) => Ok(String::new(alloc)),
+    }
+}
+
+#[tactic(auto, unfolding(crate::specs::Hints::hint_of))]
+fn look_hint(alloc: Global, file: &str, lookalike: Lookalike) -> Result<String, AllocError>
+    ensures { IfOk result (λ line. string_bytes line ≡ hint_of file.now (Looks lookalike)) }
+{
+    let name = name(lookalike);
+    let part = part(lookalike);
+    match command(lookalike) {
+        Some(command) => {
+            format!(in alloc; "mvt: it looks like {name}: {command} {file}{part} | mvt check\n")
+        }
+        None => format!(in alloc; "mvt: it looks like {name}\n"),
+    }
+}
+
+/// What an input looks like, in words.
+#[tactic(auto, unfolding(crate::specs::Hints::name_of))]
+fn name(lookalike: Lookalike) -> &'static str
+    ensures { result.now ≡ name_of lookalike }
+{
+    match lookalike {
+        Lookalike::Gzip => "gzip",
+        Lookalike::Zlib => "zlib",
+        Lookalike::Zstd => "zstd",
+        Lookalike::Png => "a PNG picture",
+        Lookalike::Sqlite => "MBTiles",
+        Lookalike::Pmtiles => "PMTiles",
+        Lookalike::Json => "JSON",
+        Lookalike::Html => "HTML, as a server's page about an error",
+        Lookalike::Jpeg => "a JPEG picture",
+        Lookalike::Gif => "a GIF picture",
+        Lookalike::Webp => "a WebP picture",
+        Lookalike::FlatGeobuf => "FlatGeobuf",
+        Lookalike::Xz => "xz",
+        Lookalike::Bzip2 => "bzip2",
+        Lookalike::Zip => "a ZIP archive",
+        Lookalike::Pdf => "a PDF document",
+        Lookalike::OsmPbf => "OpenStreetMap data (PBF)",
+        Lookalike::Xml => "XML, as a server's message about an error",
+        Lookalike::PlainText => "plain text, as a server's message about an error",
+        Lookalike::Brotli => "brotli",
+        Lookalike::Mbtiles => "MBTiles",
+    }
+}
+
+/// The command that gives a tile of it.
+#[tactic(auto, unfolding(crate::specs::Hints::command_of))]
+fn command(lookalike: Lookalike) -> Option<&'static str>
+    ensures { option_copied result ≡ command_of lookalike }
+{
+    match lookalike {
+        Lookalike::Gzip => Some("gunzip -c"),
+        Lookalike::Zlib => Some("zlib-flate -uncompress <"),
+        Lookalike::Zstd => Some("zstd -dc"),
+        Lookalike::Xz => Some("xz -dc"),
+        Lookalike::Bzip2 => Some("bzip2 -dc"),
+        Lookalike::Brotli => Some("brotli -dc"),
+        Lookalike::Zip => Some("unzip -p"),
+        Lookalike::Sqlite | Lookalike::Mbtiles | Lookalike::Pmtiles => Some("mvt-tile"),
+        _ => None,
+    }
+}
+
+/// What follows the file's name there: which tile of a store, and which file of an archive.
+#[tactic(auto, unfolding(crate::specs::Hints::part_of))]
+fn part(lookalike: Lookalike) -> &'static str
+    ensures { result.now ≡ part_of lookalike }
+{
+    match lookalike {
+        Lookalike::Sqlite | Lookalike::Mbtiles | Lookalike::Pmtiles => " Z/X/Y",
+        Lookalike::Zip => " NAME",
+        _ => "",
     }
 }

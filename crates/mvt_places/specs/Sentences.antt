@@ -3,7 +3,7 @@ use Rattle.std.specs.Prelude.{ℕ, List, Option, Some, None, codes}
 use Rattle.mvt_feature.specs.declared.cause.Cause.{Cause}
 use Rattle.mvt_feature.specs.declared.cause.Cause.TheVariants.{Truncated, VarintRange, FieldNumber, WireType, WrongType, NumberRange, NotUtf8, NoVersion, NoName, ValueKind, GeomType, OddTags, KeyIndex, ValueIndex, RepeatedKey, Command, Count, Parameters, ZeroSegment, CoordinateRange, FirstRing, EndsEarly, RepeatedName, TooLarge, ParameterRange}
 use Rattle.mvt_places.specs.declared.lookalike.Lookalike.{Lookalike}
-use Rattle.mvt_places.specs.declared.lookalike.Lookalike.TheVariants.{Gzip, Zlib, Zstd, Png, Sqlite, Pmtiles, Json, Html}
+use Rattle.mvt_places.specs.declared.lookalike.Lookalike.TheVariants.{Gzip, Zlib, Zstd, Png, Sqlite, Pmtiles, Json, Html, Jpeg, Gif, Webp, FlatGeobuf, Xz, Bzip2, Zip, Pdf, OsmPbf, Xml, PlainText, Brotli, Mbtiles}
 use Rattle.mvt_places.specs.Lookalikes.{lookalike_of}
 
 -- which rule is broken
@@ -47,6 +47,20 @@ lookalike_sentence Sqlite = codes "This isn't a tile, but looks like a SQLite da
 lookalike_sentence Pmtiles = codes "This isn't a tile, but looks like a PMTiles archive: take a tile out of it first."
 lookalike_sentence Json = codes "This isn't a tile, but looks like JSON."
 lookalike_sentence Html = codes "This isn't a tile, but looks like HTML. It may be a server's page about an error."
+lookalike_sentence Jpeg = codes "This isn't a tile, but looks like a JPEG picture."
+lookalike_sentence Gif = codes "This isn't a tile, but looks like a GIF picture."
+lookalike_sentence Webp = codes "This isn't a tile, but looks like a WebP picture."
+lookalike_sentence FlatGeobuf = codes "This isn't a tile, but looks like a FlatGeobuf file."
+lookalike_sentence Xz = codes "This isn't a tile, but looks like xz. A tile is read uncompressed: unpack it first."
+lookalike_sentence Bzip2 = codes "This isn't a tile, but looks like bzip2. A tile is read uncompressed: unpack it first."
+lookalike_sentence Zip = codes "This isn't a tile, but looks like a ZIP archive: unpack it first."
+lookalike_sentence Pdf = codes "This isn't a tile, but looks like a PDF document."
+lookalike_sentence OsmPbf = codes "This isn't a tile, but looks like OpenStreetMap data (PBF), which has no tiles."
+lookalike_sentence Xml = codes "This isn't a tile, but looks like XML. It may be a server's message about an error."
+lookalike_sentence PlainText = codes "This isn't a tile, but looks like plain text. It may be a server's message about an error."
+lookalike_sentence Brotli = codes "This isn't a tile, but looks like brotli. A tile is read uncompressed: unpack it first."
+lookalike_sentence Mbtiles = codes
+    "This isn't a tile, but looks like a SQLite database, as MBTiles are: take a tile out of it first. `mvt-audit` judges each tile in it."
 
 abbrev pub sentence_by : Option Lookalike → Cause → List ℕ
 sentence_by (Some lookalike) cause = lookalike_sentence lookalike

@@ -2,6 +2,7 @@
 #![tactic(auto)]
 
 mod around;
+mod brotli;
 mod explaining;
 mod field_rows;
 mod integers;
@@ -12,6 +13,7 @@ mod message;
 mod numbers;
 mod pen;
 mod place;
+mod plain_text;
 mod sentences;
 mod span;
 mod target;

@@ -187,6 +187,64 @@ macro_rules! of_lookalike {
                     error.",
                 $end
             ),
+            Lookalike::Jpeg => concat!(
+                "This isn't a tile, but looks like a JPEG picture.",
+                $end
+            ),
+            Lookalike::Gif => concat!(
+                "This isn't a tile, but looks like a GIF picture.",
+                $end
+            ),
+            Lookalike::Webp => concat!(
+                "This isn't a tile, but looks like a WebP picture.",
+                $end
+            ),
+            Lookalike::FlatGeobuf => concat!(
+                "This isn't a tile, but looks like a FlatGeobuf file.",
+                $end
+            ),
+            Lookalike::Xz => concat!(
+                "This isn't a tile, but looks like xz. A tile is read uncompressed: unpack it \
+                    first.",
+                $end
+            ),
+            Lookalike::Bzip2 => concat!(
+                "This isn't a tile, but looks like bzip2. A tile is read uncompressed: unpack it \
+                    first.",
+                $end
+            ),
+            Lookalike::Zip => concat!(
+                "This isn't a tile, but looks like a ZIP archive: unpack it first.",
+                $end
+            ),
+            Lookalike::Pdf => concat!(
+                "This isn't a tile, but looks like a PDF document.",
+                $end
+            ),
+            Lookalike::OsmPbf => concat!(
+                "This isn't a tile, but looks like OpenStreetMap data (PBF), which has no tiles.",
+                $end
+            ),
+            Lookalike::Xml => concat!(
+                "This isn't a tile, but looks like XML. It may be a server's message about an \
+                    error.",
+                $end
+            ),
+            Lookalike::PlainText => concat!(
+                "This isn't a tile, but looks like plain text. It may be a server's message about \
+                    an error.",
+                $end
+            ),
+            Lookalike::Brotli => concat!(
+                "This isn't a tile, but looks like brotli. A tile is read uncompressed: unpack it \
+                    first.",
+                $end
+            ),
+            Lookalike::Mbtiles => concat!(
+                "This isn't a tile, but looks like a SQLite database, as MBTiles are: take a tile \
+                    out of it first. `mvt-audit` judges each tile in it.",
+                $end
+            ),
         }
     };
 }

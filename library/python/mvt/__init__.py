@@ -42,7 +42,7 @@ from ._mvt import (
     write,
 )
 from ._numbers import CAUSES, LIMIT
-from ._remarks import Finding, Note, Report, Survey, lint, report, survey
+from ._remarks import Finding, Note, Report, Survey, lint, looks_like, report, survey
 from ._tiles import Feature, Foreign, Kind, Layer, Point, Tile
 from ._values import Float, Int, Sint, Uint, Value
 from .geojson import MadeLayer, Vanished, from_geojson, to_geojson
@@ -120,6 +120,7 @@ __all__ = [
     "from_geojson",
     "judge",
     "lint",
+    "looks_like",
     "read",
     "read_layer",
     "report",

@@ -48,3 +48,27 @@ FINDINGS = {
     5: "LargeId",
     6: "LargeNumber",
 }
+
+LOOKALIKES = {
+    1: "Gzip",
+    2: "Zlib",
+    3: "Zstd",
+    4: "Png",
+    5: "Sqlite",
+    6: "Pmtiles",
+    7: "Json",
+    8: "Html",
+    9: "Jpeg",
+    10: "Gif",
+    11: "Webp",
+    12: "FlatGeobuf",
+    13: "Xz",
+    14: "Bzip2",
+    15: "Zip",
+    16: "Pdf",
+    17: "OsmPbf",
+    18: "Xml",
+    19: "PlainText",
+    20: "Brotli",
+    21: "Mbtiles",
+}

@@ -1,11 +1,11 @@
-"""What is noted and found of a tile that keeps every rule."""
+"""What is noted and found of a tile that keeps every rule, and what bytes look like that are no tile."""
 
 from dataclasses import dataclass
 from itertools import chain
 from typing import Any, Dict, List, Optional, Sequence, Tuple, Union
 
-from ._mvt import finding_text, lint_rows, note_text, report_lines, survey_rows
-from ._numbers import FINDINGS, NOTES
+from ._mvt import finding_text, lint_rows, lookalike, note_text, report_lines, survey_rows
+from ._numbers import FINDINGS, LOOKALIKES, NOTES
 from ._reprs import brief, pieces
 
 _Buffer = Union[bytes, bytearray, memoryview]
@@ -143,6 +143,15 @@ def lint(tile: _Buffer) -> List[Finding]:
     What is found breaks no rule: `judge` accepts such a tile. Raises Refused.
     """
     return list(map(finding_of, lint_rows(tile)))
+
+
+def looks_like(tile: _Buffer) -> Optional[str]:
+    """What refused bytes look like, such as "Gzip", "Jpeg" or "PlainText" (the names of `mvt_lookalike` in mvt.h); None if
+    they may be meant as a tile.
+
+    Of an accepted tile it says nothing. `Refused` has it in words.
+    """
+    return LOOKALIKES.get(lookalike(tile))
 
 
 def note_of(row: Sequence[int]) -> Note:

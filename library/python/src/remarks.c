@@ -1,4 +1,5 @@
-/* What is noted and found of a tile, as tuples, and what the numbers of causes, notes and findings mean. */
+/* What is noted and found of a tile, as tuples, what refused bytes look like, and what the numbers of causes, notes and findings
+ * mean. */
 #include "module.h"
 
 static PyObject *note_told(const void *notes, size_t at) {
@@ -114,6 +115,17 @@ static PyObject *text_of(PyObject *number, const char *(*text)(uint32_t)) {
     return number_given(number, UINT32_MAX, &told) < 0 ? NULL : PyUnicode_FromString(text((uint32_t)told));
 }
 
+static PyObject *lookalike(PyObject *module, PyObject *given) {
+    (void)module;
+    PyObject *tile = bytes_of(given);
+    if (tile == NULL) return NULL;
+    size_t len;
+    const uint8_t *bytes = content_of(tile, &len);
+    const int kind = mvt_looks_like(bytes, len);
+    Py_DECREF(tile);
+    return PyLong_FromLong(kind);
+}
+
 static PyObject *cause_text(PyObject *module, PyObject *number) { return (void)module, text_of(number, mvt_cause_text); }
 static PyObject *note_text(PyObject *module, PyObject *number) { return (void)module, text_of(number, mvt_note_text); }
 static PyObject *finding_text(PyObject *module, PyObject *number) { return (void)module, text_of(number, mvt_finding_text); }
@@ -131,6 +143,8 @@ PyMethodDef REMARKS_CALLS[] = {
      "looked_at($module, tile, /)\n--\n\n"
      "Of each kind of note how many there are, and the first; the first 50 notes; and of each kind of finding how many there\n"
      "are, and the first. None where there is neither, as with most tiles. Raises Refused."},
+    {"lookalike", lookalike, METH_O,
+     "lookalike($module, tile, /)\n--\n\nThe number of what refused bytes look like, or 0 if they may be meant as a tile."},
     {"cause_text", cause_text, METH_O, "cause_text($module, cause, /)\n--\n\nWhat the number of a cause means, in a sentence or two."},
     {"note_text", note_text, METH_O, "note_text($module, note, /)\n--\n\nWhat the number of a note means, in a sentence."},
     {"finding_text", finding_text, METH_O,

@@ -8,6 +8,8 @@
 
 static uint8_t *told;
 static size_t used, room;
+static const uint8_t *asked;
+static size_t asked_len;
 
 static void put(const void *bytes, size_t len) {
     while (room - used < len) told = realloc(told, room = 2 * room + 4096);
@@ -19,7 +21,7 @@ static void put_long(uint64_t number) {
     put(&number, 8);
 }
 
-/* Status, and the fault where there is one. */
+/* Status, and the fault where there is one, with what the bytes look like. */
 static void put_status(uint32_t status, const mvt_fault *fault) {
     put(&status, 4);
     if (status != MVT_REFUSED) return;
@@ -29,6 +31,11 @@ static void put_status(uint32_t status, const mvt_fault *fault) {
     put(&fault->cause, 4);
     put_long(fault->name.len);
     put(fault->name.data, fault->name.len);
+    const uint32_t kind = (uint32_t)mvt_looks_like(asked, asked_len);
+    put(&kind, 4);
+    if (kind == 0) return;
+    const char *sentence = mvt_explain(asked, asked_len, fault);
+    put(sentence, strlen(sentence));
 }
 
 static void put_made(uint32_t status, const mvt_fault *fault, mvt_bytes *made) {
@@ -94,6 +101,7 @@ static void answer(const uint8_t *bytes, size_t len) {
     mvt_fault fault = {0};
     mvt_bytes made = {0};
     mvt_tile tile = {0};
+    asked = bytes, asked_len = len;
     put_status(mvt_judge(bytes, len, &fault), &fault);
     put_made(mvt_rewrite(bytes, len, &made, &fault), &fault, &made);
     put_made(mvt_extract(bytes, len, names, 2, &made, &fault, NULL), &fault, &made);

@@ -14,10 +14,13 @@ export async function answersOf(codec, bytes) {
     number(answer.status, 4);
     if (answer.status !== 1) return;
     const { layer, feature, at, cause, name } = answer.fault;
+    const { kind, sentence } = answer.looks ?? { kind: 0, sentence: '' };
     [layer ?? -1, feature ?? -1, at].forEach((value) => number(value, 8));
     number(cause, 4);
     number(name.length, 8);
     put(new TextEncoder().encode(name));
+    number(kind, 4);
+    put(new TextEncoder().encode(sentence));
   };
   const made = (answer) => {
     status(answer);

@@ -1,6 +1,5 @@
 // The page's own modules, those that want no codec. Expected values are by hand.
-import { readFileSync } from 'node:fs';
-import { brotliCompressSync, deflateSync, gzipSync } from 'node:zlib';
+import { deflateSync, gzipSync } from 'node:zlib';
 import { csvOf } from '../../../tools/mvt_tools/page/src/csv.js';
 import { firstDifference } from '../../../tools/mvt_tools/page/src/differ.js';
 import { FeatureTable } from '../../../tools/mvt_tools/page/src/features.js';
@@ -10,8 +9,8 @@ import { foreign, plain } from '../../../tools/mvt_tools/page/src/foreign.js';
 import { JsonIndex } from '../../../tools/mvt_tools/page/src/json-index.js';
 import { coloured, laidOut } from '../../../tools/mvt_tools/page/src/json.js';
 import { allJudged } from '../../../tools/mvt_tools/page/src/judging.js';
-import { kindOfFile } from '../../../tools/mvt_tools/page/src/kinds.js';
-import { FINDING, NOTE } from '../../../tools/mvt_tools/page/src/layout.js';
+import { FINDING, LOOKALIKE, NOTE } from '../../../tools/mvt_tools/page/src/layout.js';
+import { sayLookalike } from '../../../tools/mvt_tools/page/src/lookalikes.js';
 import { boxOf } from '../../../tools/mvt_tools/page/src/map.js';
 import { placeIn, stemOf } from '../../../tools/mvt_tools/page/src/names.js';
 import { Finder } from '../../../tools/mvt_tools/page/src/near.js';
@@ -32,7 +31,6 @@ withElements();
 const counts = new Counts();
 const is = (name, got, wanted) =>
   counts.check(name, () => JSON.stringify(got) === JSON.stringify(wanted) || `${JSON.stringify(got)}, wanted ${JSON.stringify(wanted)}`);
-const latin = (text) => Uint8Array.from(text, (letter) => letter.charCodeAt(0));
 
 // ---- pasted bytes
 
@@ -77,21 +75,18 @@ for (const [name, [bytes, wanted]] of Object.entries(DAMAGED)) {
   await is(name, [made.damaged, made.bytes.length], [wanted, bytes.length]);
 }
 
-const KINDS = {
-  PNG: ['\x89PNG\r\n\x1a\n'], JPEG: ['\xff\xd8\xff\xe0'], WebP: ['RIFF\0\0\0\0WEBPVP8 '], PMTiles: ['PMTiles\x03'], SQLite: ['SQLite format 3\0'],
-  MBTiles: [`SQLite format 3\0${' '.repeat(900)}zoom_level integer, tile_column integer`], HTML: ['\n<!DOCTYPE html><html>'], XML: ['<?xml version="1.0"?><Error>'],
-  JSON: ['{"layers":[]}'], zstd: ['\x28\xb5\x2f\xfd\x04'], ZIP: ['PK\x03\x04'], text: ['404 page not found'], OSM: ['\0\0\0\x0d\n\tOSMHeader'],
-  brotli: ['\x0b\x02\x80abc\x03', '1451.pbf.br'],
-};
-for (const [name, [start, file = 'a.mvt']] of Object.entries(KINDS)) await is(`a file is ${name}`, kindOfFile(latin(start), file)?.name, name);
-const tiles = new URL('../../../fixtures/tiles', import.meta.url).pathname;
-for (const file of ['gdal.mvt', 'gdal.json', 'town.geojson', 'postgis.mvt']) {
-  await is(`brotli of ${file}`, kindOfFile(new Uint8Array(brotliCompressSync(readFileSync(`${tiles}/${file}`))), 'a.mvt')?.name, 'brotli');
+// Each kind has a name without the library's way of writing it.
+const looks = (kind) => ({ kind, sentence: 'This isn’t a tile.' });
+const NAMED = ['gzip', 'zlib', 'zstd', 'PNG', 'SQLite', 'PMTiles', 'JSON', 'HTML', 'JPEG', 'GIF', 'WebP', 'FlatGeobuf', 'xz', 'bzip2', 'ZIP', 'PDF', 'OSM', 'XML', 'text', 'brotli', 'MBTiles'];
+await is('each kind has a name', Object.values(LOOKALIKE).map((kind) => sayLookalike(looks(kind), 'a.mvt').name), NAMED);
+await is('a kind of a later library', sayLookalike(looks(99), 'a.mvt').name, 'kind 99');
+await is('a picture is what the library says', sayLookalike(looks(LOOKALIKE.Jpeg), 'a.mvt').sentence, 'This isn’t a tile.');
+await is('a broken tile is a tile', sayLookalike(null, 'a.mvt'), null);
+await is('brotli by its name', sayLookalike(null, '1451.pbf.br')?.name, 'brotli');
+await is('what the library sees is more than a name', sayLookalike(looks(LOOKALIKE.PlainText), 'a.br').name, 'text');
+for (const kind of ['Pmtiles', 'Mbtiles', 'Sqlite']) {
+  await counts.check(`of a store it is said what to do: ${kind}`, () => sayLookalike(looks(LOOKALIKE[kind]), 'a').sentence.includes('`mvt-page` with the file’s name opens it'));
 }
-await is('a broken tile is a tile', kindOfFile(Uint8Array.of(0x1a, 3, 0x0a, 9, 0x61, 0x78, 2), 'a.mvt'), null);
-await is('a large database', kindOfFile(latin(`SQLite format 3\0${' '.repeat(1 << 20)}`), 'a.gpkg')?.name, 'SQLite');
-await is('a large store', kindOfFile(latin(`SQLite format 3\0${' '.repeat(60_000)}tile_column${' '.repeat(1 << 20)}`), 'a.mbtiles')?.name, 'MBTiles');
-await counts.check('of a store it is said what to do', () => kindOfFile(latin('PMTiles\x03'), 'a').sentence.includes('`mvt-page` with the file’s name opens it'));
 
 // ---- several files, judged by one question
 
@@ -269,13 +264,16 @@ await is('a mark beyond the tile is seen', isIn({ parts: [[[10, 10]]], mark: [90
 const FAULT = [1, 0, 0, 0, 0, 0, 0, 0, ...Array(8).fill(255), 2, 0, 0, 0, 0, 0, 0, 0, 8, 1, 0, 0, 0, 0, 0, 0, 22, 0, 0, 0, 2, 0, 0, 0, 0x61, 0x62];
 await is('an answer of bytes', { ...answerOf(Uint8Array.of(0, 0, 0, 0, 0, 0, 0, 0, 7, 8)), bytes: undefined }, { status: 0 });
 await is('its bytes', [...answerOf(Uint8Array.of(0, 0, 0, 0, 0, 0, 0, 0, 7, 8)).bytes], [7, 8]);
-await is('an answer with a fault', answerOf(Uint8Array.from(FAULT)), { status: 1, fault: { layer: null, feature: 2, at: 264, cause: 22, name: 'ab' } });
+await is('an answer with a fault', answerOf(Uint8Array.from(FAULT)), { status: 1, fault: { layer: null, feature: 2, at: 264, cause: 22, name: 'ab' }, looks: null });
 await is('an answer that stands within others', answerOf(Uint8Array.from([9, 9, 9, ...FAULT]).subarray(3)).fault.at, 264);
 const counted = (...numbers) => numbers.flatMap((number) => [number, 0, 0, 0, 0, 0, 0, 0]);
 const short = (...numbers) => numbers.flatMap((number) => [number, 0, 0, 0]);
 const PLACE = [...FAULT, ...short(1, 1), ...Array(8).fill(255), ...counted(9, 11), ...short(2, 3), 0xc3, 0xa4, 0x63, 0x64, 0x2e];
 await is('a place', explainedOf(Uint8Array.from([7, ...PLACE]).subarray(1)).place, { start: 9, end: 11, layerName: 'ä', featureId: '18446744073709551615', sentence: 'cd.' });
 await is('its fault', explainedOf(Uint8Array.from(PLACE)).fault, answerOf(Uint8Array.from(FAULT)).fault);
+const LOOKING = [...FAULT.with(4, 9), 3, 0, 0, 0, 101, 102, 46];
+await is('what refused bytes look like', answerOf(Uint8Array.from([7, ...LOOKING]).subarray(1)).looks, { kind: 9, sentence: 'ef.' });
+await is('a place behind it', explainedOf(Uint8Array.from([...LOOKING, ...PLACE.slice(FAULT.length)])).place, explainedOf(Uint8Array.from(PLACE)).place);
 const nameless = explainedOf(Uint8Array.from([...FAULT, ...short(0, 0), ...counted(0, 1, 2), ...short(0, 0)])).place;
 await is('a place without a name and an id', nameless, { start: 1, end: 2, layerName: null, featureId: null, sentence: '' });
 await is('no place where nothing is refused', explainedOf(Uint8Array.of(0, 0, 0, 0, 0, 0, 0, 0)).place ?? null, null);

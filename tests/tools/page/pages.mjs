@@ -306,6 +306,13 @@ await onPage('a database among tiles says what it is, and the tiles are judged',
   return same([heading, told.includes('`mvt-page` with the file’s name opens it here')], ['4 files: 1 accepted, 1 refused, 2 no tile', true]);
 });
 
+await onPage('a picture that is no tile: the library says so, once', {}, async (page) => {
+  await look(page, [made('photo.jpg', Buffer.from([0xff, 0xd8, 0xff, 0xe0, 0, 16]))]);
+  await page.until("document.querySelector('#tile .verdict.other')");
+  const told = await page.value(textOf('#tile'));
+  return same([...told.matchAll(/looks like a JPEG picture/g)].length, 1);
+});
+
 await onPage('a folder', {}, async (page) => {
   await page.choose([`${tiles}/broken`], '#folder');
   await page.until("document.querySelector('#list h2')?.textContent.includes(' files:') && !document.body.classList.contains('busy')");

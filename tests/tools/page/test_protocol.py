@@ -87,6 +87,15 @@ class Calls(Served):
         self.assertEqual(self.serving.call("extract", frames(b"a", BROKEN)), wanted)
         self.assertEqual(self.serving.call("judge", b"\0"), struct.pack("<IIqqQII", 1, 0, -1, -1, 0, 3, 11) + b"FieldNumber")
 
+    def test_what_bytes_look_like(self):
+        """The number of a GIF in mvt_lookalike, and the sentence."""
+        sentence = b"This isn't a tile, but looks like a GIF picture."
+        wanted = struct.pack("<IIqqQII", 1, 10, -1, -1, 0, 4, 8) + b"WireType" + struct.pack("<I", len(sentence)) + sentence
+        for name in ("judge", "read", "survey", "findings", "rewrite", "json", "svg"):
+            self.assertEqual(self.serving.call(name, b"GIF89a"), wanted, name)
+        self.assertEqual(self.serving.call("extract", frames(b"a", b"GIF89a")), wanted)
+        self.assertEqual(self.serving.call("surveys", frames(b"GIF89a", BROKEN)), frames(wanted, self.serving.call("judge", BROKEN)))
+
     def test_a_place(self):
         told, fault = self.serving.call("explain", BROKEN), self.serving.call("judge", BROKEN)
         sentence = "The first ring goes the wrong way round. An exterior ring has positive area, which is clockwise on the screen.".encode()

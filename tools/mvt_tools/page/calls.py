@@ -1,9 +1,11 @@
-"""The library's calls as the page asks for them. An answer is the call's status and a 0, of 32 bits each, and then
+"""The library's calls as the page asks for them. An answer is the call's status and what refused bytes look like (an
+mvt_lookalike, or 0), of 32 bits each, and then
 
 - for status 0 what the call hands out: bytes, or rows, as they lie in memory;
-- for status 1 the fault: layer, feature, place, cause, the length of the cause's name, and the name; of `explain` then
-  its place: whether there is a layer's name and a feature's id, of 32 bits each, the id, where the bytes begin and end that
-  the fault is about, the lengths of the layer's name and of the sentence, the name, and the sentence.
+- for status 1 the fault: layer, feature, place, cause, the length of the cause's name, and the name; where the bytes look like
+  something the length of the sentence that says so, of 32 bits, and the sentence; of `explain` then its place: whether there is
+  a layer's name and a feature's id, of 32 bits each, the id, where the bytes begin and end that the fault is about, the lengths
+  of the layer's name and of the sentence, the name, and the sentence.
 
 The rows of a tile are nine counts of 64 bits in the order of `mvt_tile`, and the lists, each from the next multiple of 8. A survey
 is the number of layers, that of features, and 1 if the bytes are canonical, of 64 bits each, and then the rows of the notes.
@@ -15,7 +17,7 @@ from functools import partial
 from typing import Any, Callable, Dict, List, Optional, Tuple
 
 import mvt
-from mvt._mvt import answer, answer_extract, located, measured
+from mvt._mvt import answer, answer_extract, located, lookalike, measured
 from mvt.geojson.making import Place, objects_of, parts_of
 
 from ..stores import place_of
@@ -32,13 +34,14 @@ _MOST_GEOJSON = 1 << 30
 
 # The pieces of an answer. Those that the library made aren't copied.
 Answer = List[Part]
+_Fault = Tuple[int, int, int, int, bytes]
 
 
 def _explain(body: bytearray) -> Answer:
     """Where and why a tile is refused; of an accepted one only that."""
     tile = bytes(body)
     status, made = answer("judge", tile)
-    return _spelled(status, made) + (_explained(made, tile) if status == REFUSED else [])
+    return _spelled(status, made, tile) + (_explained(made, tile) if status == REFUSED else [])
 
 
 def _around(body: bytearray) -> Answer:
@@ -51,27 +54,28 @@ def _around(body: bytearray) -> Answer:
 
 def _made(call: str, body: bytearray) -> Answer:
     """What a call makes of a tile."""
-    return _spelled(*answer(call, body, MOST_ROWS))
+    return _spelled(*answer(call, body, MOST_ROWS), body)
 
 
 def _extract(body: bytearray) -> Answer:
     """Of frames: names, and behind them the tile."""
-    *names, tile = frames.places(body, least=1)
-    return _spelled(*answer_extract(memoryview(body)[tile], [bytes(body[name]) for name in names]))
+    *names, place = frames.places(body, least=1)
+    tile = memoryview(body)[place]
+    return _spelled(*answer_extract(tile, [bytes(body[name]) for name in names]), tile)
 
 
 def _surveys(body: bytearray) -> Answer:
     """Of frames of tiles: frames of answers."""
     view = memoryview(body)
-    return frames.spelled([_spelled(*answer("survey", view[place])) for place in frames.places(body)])
+    return frames.spelled([_spelled(*answer("survey", view[place]), view[place]) for place in frames.places(body)])
 
 
 def _sizes(body: bytearray) -> Answer:
     """Of each layer the bytes, and those of its geometries, as JSON."""
     layers = measured(body, MOST_ROWS)
     if layers is None:
-        return _spelled(NO_MEMORY, None)
-    return _spelled(OK, json.dumps([[bytes, geometry] for _, _, bytes, geometry, _ in layers]).encode())
+        return _spelled(NO_MEMORY, None, body)
+    return _spelled(OK, json.dumps([[bytes, geometry] for _, _, bytes, geometry, _ in layers]).encode(), body)
 
 
 def _geojson(body: bytearray) -> Answer:
@@ -83,11 +87,11 @@ def _geojson(body: bytearray) -> Answer:
     if others or (spelled and where is None):
         raise frames.FrameError("it is a place and a tile")
     try:
-        return _spelled(OK, _collection(memoryview(body)[tile], where))
+        return _spelled(OK, _collection(memoryview(body)[tile], where), body)
     except mvt.Refused:
         return _made("judge", body[tile])
     except MemoryError:
-        return _spelled(NO_MEMORY, None)
+        return _spelled(NO_MEMORY, None, body)
 
 
 def _collection(tile: memoryview, place: Optional[Place]) -> bytes:
@@ -120,17 +124,27 @@ CALLS: Dict[str, Callable[[bytearray], Answer]] = {
 FRAMED = ("extract", "surveys", "geojson")
 
 
-def _spelled(status: int, made: Any) -> Answer:
-    head = struct.pack("<II", status, 0)
+def _spelled(status: int, made: Any, tile: mvt.Buffer) -> Answer:
+    """What a call answers of a tile."""
     if status == REFUSED:
-        layer, feature, at, cause, name = made
-        return [head + struct.pack("<qqQII", layer, feature, at, cause, len(name)) + name]
+        return [_refused(made, tile)]
+    head = struct.pack("<II", status, 0)
     if status != OK:
         return [head]
     return [head, *(_lists(made) if isinstance(made, tuple) else [memoryview(made)])]
 
 
-def _explained(fault: Tuple[int, int, int, int, bytes], tile: bytes) -> Answer:
+def _refused(fault: _Fault, tile: mvt.Buffer) -> bytes:
+    layer, feature, at, cause, name = fault
+    kind = lookalike(tile)
+    told = struct.pack("<IIqqQII", REFUSED, kind, layer, feature, at, cause, len(name)) + name
+    if kind == 0:
+        return told
+    *_, sentence = located(tile, fault)
+    return told + struct.pack("<I", len(sentence)) + sentence
+
+
+def _explained(fault: _Fault, tile: bytes) -> Answer:
     *told, name, sentence = located(tile, fault)
     return [struct.pack("<IIQQQII", *told, len(name), len(sentence)), name, sentence]
 

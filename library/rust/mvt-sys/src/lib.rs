@@ -94,6 +94,31 @@ pub mod rows_cause {
     pub const MVT_ROWS_REPEATED_NAME: u32 = 19;
 }
 
+/// What bytes look like that are no tile.
+pub mod lookalike {
+    pub const GZIP: u32 = 1;
+    pub const ZLIB: u32 = 2;
+    pub const ZSTD: u32 = 3;
+    pub const PNG: u32 = 4;
+    pub const SQLITE: u32 = 5;
+    pub const PMTILES: u32 = 6;
+    pub const JSON: u32 = 7;
+    pub const HTML: u32 = 8;
+    pub const JPEG: u32 = 9;
+    pub const GIF: u32 = 10;
+    pub const WEBP: u32 = 11;
+    pub const FLAT_GEOBUF: u32 = 12;
+    pub const XZ: u32 = 13;
+    pub const BZIP2: u32 = 14;
+    pub const ZIP: u32 = 15;
+    pub const PDF: u32 = 16;
+    pub const OSM_PBF: u32 = 17;
+    pub const XML: u32 = 18;
+    pub const PLAIN_TEXT: u32 = 19;
+    pub const BROTLI: u32 = 20;
+    pub const MBTILES: u32 = 21;
+}
+
 /// What an integer of a geometry is, in an `mvt_step`.
 pub mod role {
     pub const NOTHING: u32 = 0;
@@ -428,6 +453,7 @@ extern "C" {
     pub fn mvt_cause_text(cause: u32) -> *const c_char;
     pub fn mvt_note_text(note: u32) -> *const c_char;
     pub fn mvt_finding_text(finding: u32) -> *const c_char;
+    pub fn mvt_looks_like(bytes: *const u8, len: usize) -> c_int;
     pub fn mvt_explain(bytes: *const u8, len: usize, fault: *const Fault) -> *const c_char;
     pub fn mvt_locate(bytes: *const u8, len: usize, fault: *const Fault, out: *mut Place);
     pub fn mvt_around(

@@ -73,6 +73,18 @@ pub fn judge(bytes: &[u8]) -> Result<(), Error> {
     }
 }
 
+/// What refused bytes look like, a number of [`lookalike`](crate::lookalike); `None` if they may be
+/// meant as a tile. Of an accepted tile it says nothing.
+///
+/// ```
+/// assert_eq!(mvt::looks_like(b"GIF89a"), Some(mvt::lookalike::GIF));
+/// ```
+pub fn looks_like(bytes: &[u8]) -> Option<u32> {
+    // SAFETY: the bytes are lent for the call.
+    let kind = unsafe { sys::mvt_looks_like(bytes.as_ptr(), bytes.len()) };
+    u32::try_from(kind).ok().filter(|kind| *kind != 0)
+}
+
 /// A tile as rows, whose layers and features are views of them.
 ///
 /// ```

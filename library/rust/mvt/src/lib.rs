@@ -43,15 +43,15 @@ use mvt_sys as sys;
 pub use around::{around, Around, Bounds, FieldRow, Integer, Step};
 pub use builder::Builder;
 pub use calls::{
-    extract, judge, lint, read, read_layer, read_within, report, rewrite, to_json, to_svg, version,
-    write,
+    extract, judge, lint, looks_like, read, read_layer, read_within, report, rewrite, to_json,
+    to_svg, version, write,
 };
 pub use decoder::Decoder;
 pub use error::{Error, Refused, RowsFault};
 pub use feature::{Attributes, Feature, Features};
 pub use geometry::{Kind, Part, Parts, Point};
 pub use layer::{Layer, Layers};
-pub use mvt_sys::{cause, role, rows_cause, LIMIT};
+pub use mvt_sys::{cause, lookalike, role, rows_cause, LIMIT};
 pub use output::Bytes;
 pub use remarks::{lint_rows, survey, Finding, Note, Summary};
 pub use rows::{FeatureRow, LayerRow, PartRow, Rows, Span, ValueRow};

@@ -367,6 +367,14 @@ fn what_looks_compressed_is_said() {
 }
 
 #[test]
+fn what_bytes_look_like() {
+    let page = b"<!DOCTYPE html>";
+    assert_eq!(mvt::looks_like(page), Some(mvt::lookalike::HTML));
+    assert_eq!(mvt::looks_like(b"\x1a\x03\x0a\x09ax\x02"), None);
+    assert_eq!(mvt::looks_like(b""), None);
+}
+
+#[test]
 fn keys_and_values_by_their_indices() {
     let mut builder = Builder::new();
     assert_eq!(builder.key("early"), Err(Error::OutOfTurn));

@@ -1,6 +1,6 @@
 // What the library says of bytes, in the form in which the worker hands it to the page.
 import { Gone, NO_MEMORY, OK } from './codec.js';
-import { kindOfFile } from './kinds.js';
+import { sayLookalike } from './lookalikes.js';
 import { Survey } from './remarks.js';
 import { Rows } from './rows.js';
 import { REFUSED } from './spelling.js';
@@ -56,9 +56,9 @@ function surveyed(answer, read, name) {
   });
 }
 
-function told(answer, { bytes, damaged }, name, accept) {
+function told(answer, { damaged }, name, accept) {
   if (answer.status === OK) return accept(answer);
-  if (answer.status === REFUSED) return { verdict: refusal(answer.fault, bytes, damaged, name) };
+  if (answer.status === REFUSED) return { verdict: refusal(answer, damaged, name) };
   return { verdict: unjudged(answer.status === NO_MEMORY ? 'there is no memory for it' : `the library answers ${answer.status}`) };
 }
 
@@ -66,10 +66,13 @@ function acceptance(foreign, notes) {
   return { kind: foreign > 0 ? 'partly' : 'accepted', fault: null, foreign, notes };
 }
 
-function refusal(fault, bytes, damaged, name) {
-  const broken = damaged && { name: `damaged ${damaged}`, sentence: `This is a damaged file: it begins as ${damaged} does, but it can’t be unpacked to its end.` };
-  const other = broken || kindOfFile(bytes, name);
+function refusal({ fault, looks }, damaged, name) {
+  const other = damaged ? sayDamaged(damaged) : sayLookalike(looks, name);
   return { kind: other ? 'other' : 'refused', fault, other, notes: [], foreign: 0 };
+}
+
+function sayDamaged(packing) {
+  return { name: `damaged ${packing}`, sentence: `This is a damaged file: it begins as ${packing} does, but it can’t be unpacked to its end.` };
 }
 
 function unjudged(why) {

@@ -12,7 +12,7 @@ export function showFault(bytes, { fault, other }, { place, shape }, rules) {
   const holders = sayHolders(fault, place);
   return [
     element('section', { class: 'fault', 'aria-label': 'The fault' }, [
-      element('p', { class: 'sentence' }, [other ? 'The library says: ' : '', place.sentence]),
+      other?.sentence.startsWith(place.sentence) ? '' : element('p', { class: 'sentence' }, [other ? 'The library says: ' : '', place.sentence]),
       holders.length === 0 ? '' : element('p', { class: 'trail' }, holders),
       element('p', {}, [sayPlace(place)]),
       element('div', { class: 'about-fault' }, [

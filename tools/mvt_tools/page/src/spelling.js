@@ -11,10 +11,14 @@ const PLACE_HEAD = 40;
 
 const dataOf = (bytes) => new DataView(bytes.buffer, bytes.byteOffset, bytes.length);
 
-/** An answer, `{status, bytes, fault}`. The bytes aren't copied. */
+/**
+ * An answer, `{status, bytes, fault, looks}`. The bytes aren't copied. `looks` is what refused bytes look like, `{kind, sentence}`,
+ * or null.
+ */
 export function answerOf(block) {
   const status = dataOf(block).getUint32(0, true);
-  return status === REFUSED ? { status, fault: faultOf(block) } : { status, bytes: block.subarray(HEAD) };
+  if (status !== REFUSED) return { status, bytes: block.subarray(HEAD) };
+  return { status, fault: faultOf(block), looks: looksOf(block) };
 }
 
 function faultOf(block) {
@@ -23,8 +27,22 @@ function faultOf(block) {
     const value = Number(view.getBigInt64(at, true));
     return value < 0 ? null : value;
   };
-  const name = block.subarray(FAULT_HEAD, FAULT_HEAD + view.getUint32(36, true));
+  const name = block.subarray(FAULT_HEAD, nameEnd(block));
   return { layer: index(8), feature: index(16), at: Number(view.getBigUint64(24, true)), cause: view.getUint32(32, true), name: text(name) };
+}
+
+const nameEnd = (block) => FAULT_HEAD + dataOf(block).getUint32(36, true);
+
+/** Where the sentence of what the bytes look like begins and ends; both behind the name where there is none. */
+function sentenceOf(block) {
+  const view = dataOf(block);
+  const end = nameEnd(block);
+  return view.getUint32(4, true) === 0 ? [end, end] : [end + 4, end + 4 + view.getUint32(end, true)];
+}
+
+function looksOf(block) {
+  const kind = dataOf(block).getUint32(4, true);
+  return kind === 0 ? null : { kind, sentence: text(block.subarray(...sentenceOf(block))) };
 }
 
 /**
@@ -37,7 +55,7 @@ export function explainedOf(block) {
 }
 
 function locatedOf(block) {
-  const rest = block.subarray(FAULT_HEAD + dataOf(block).getUint32(36, true));
+  const rest = block.subarray(sentenceOf(block)[1]);
   const view = dataOf(rest);
   const [hasName, hasId, nameLength, length] = [0, 4, 32, 36].map((at) => view.getUint32(at, true));
   const [id, start, end] = [8, 16, 24].map((at) => view.getBigUint64(at, true));
