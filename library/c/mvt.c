@@ -71,7 +71,7 @@ mvt_status mvt_extract(const uint8_t *bytes, size_t len, const mvt_bytes *names,
 }
 
 mvt_status mvt_write(const mvt_tile *tile, mvt_bytes *out, mvt_rows_fault *fault) {
-    mvt_rows_fault untold = {0, 0, 0, 0};
+    mvt_rows_fault untold = {0};
     return mvt_write_told(tile, out, fault == NULL ? &untold : fault);
 }
 
@@ -126,7 +126,15 @@ const char *mvt_explain(const uint8_t *bytes, size_t len, const mvt_fault *fault
 
 const char *mvt_cause_text(uint32_t cause) {
     mvt_bytes said = {NULL, 0};
-    return mvt_held_cause_text(cause, &said) ? (const char *)said.data : "no cause of this library";
+    if (mvt_held_cause_text(cause, &said)) return (const char *)said.data;
+    switch (cause) {
+    case MVT_CAUSE_EXTERIOR_RING:
+        return "A further exterior ring has no area or goes the wrong way round. Its area must be positive, which is clockwise "
+               "on the screen.";
+    case MVT_CAUSE_INTERIOR_RING:
+        return "A hole goes the wrong way round. Its area must not be positive: it goes counterclockwise on the screen.";
+    default: return "no cause of this library";
+    }
 }
 
 const char *mvt_note_text(uint32_t note) {
@@ -312,7 +320,7 @@ mvt_status mvt_builder_finish(mvt_builder *of, mvt_bytes *out, mvt_rows_fault *f
     if (b == NULL) return MVT_NO_MEMORY;
     const making last = b->now;
     free(b);
-    mvt_rows_fault untold = {0, 0, 0, 0};
+    mvt_rows_fault untold = {0};
     return mvt_making_finish(last, out, fault == NULL ? &untold : fault);
 }
 

@@ -50,7 +50,8 @@ typedef struct {
     size_t len;
 } mvt_bytes;
 
-/* Which rule a fault breaks; mvt_cause_text says it in words. */
+/* Which rule a fault breaks; mvt_cause_text says it in words. The last two are of rows alone (mvt_rows_fault): as bytes they
+ * would be a tile, but with other polygons. */
 typedef enum {
     MVT_CAUSE_TRUNCATED = 1,
     MVT_CAUSE_VARINT_RANGE = 2,
@@ -76,7 +77,9 @@ typedef enum {
     MVT_CAUSE_ENDS_EARLY = 23,
     MVT_CAUSE_REPEATED_NAME = 24,
     MVT_CAUSE_TOO_LARGE = 25,
-    MVT_CAUSE_PARAMETER_RANGE = 26
+    MVT_CAUSE_PARAMETER_RANGE = 26,
+    MVT_CAUSE_EXTERIOR_RING = 27,
+    MVT_CAUSE_INTERIOR_RING = 28
 } mvt_cause;
 
 /* The first broken rule. `layer` is -1 if the fault lies in a top-level field itself, and `feature` is -1 if it lies in no
@@ -278,16 +281,23 @@ typedef enum {
     MVT_ROWS_GEOMETRY = 16,       /* parts, points or integers reach beyond their list, `exterior` is neither 0 nor 1,
                                    * an interior ring comes before every exterior one, or points are in several parts */
     MVT_ROWS_DRAWING = 17,        /* no commands can draw the geometry: too few points, a point twice in a row, a ring that
-                                   * runs the wrong way round, a position or a step out of range */
+                                   * runs the wrong way round, a position or a step out of range; the rule says which */
     MVT_ROWS_BYTES = 18,          /* a layer's bytes aren't a layer of its version */
     MVT_ROWS_REPEATED_NAME = 19   /* an earlier layer has the layer's name */
 } mvt_rows_cause;
 
-/* Where rows are no valid tile. `feature` counts from the layer's first one, and is 0 if `has_feature` is 0. */
+/* Where rows are no valid tile. `feature` counts from the layer's first one, and is 0 if `has_feature` is 0.
+ * If the cause is MVT_ROWS_DRAWING, `rule` is the first rule that the geometry breaks: line by line or ring by ring, first the
+ * step to the first point, then how many points there are, the steps to the others, and the area of a ring. But for the two
+ * rules of rows alone it is the cause for which the bytes would be refused. `part` counts from the feature's first line or
+ * ring, and `point` from the part's first point; it is 0 if `has_point` is 0. For other causes these four are 0. */
 typedef struct {
     uint64_t layer, feature;
     uint32_t has_feature;   /* 1 if the fault is in a feature, else 0 */
     uint32_t cause;         /* an mvt_rows_cause */
+    uint32_t rule;          /* an mvt_cause, or 0 */
+    uint32_t has_point;     /* 1 if the rule is broken at a point, 0 if by a part as a whole */
+    uint64_t part, point;
 } mvt_rows_fault;
 
 /* The canonical bytes of the tile that the rows are. Rows may come from mvt_read or be made by hand, in any order, with
@@ -311,7 +321,7 @@ mvt_status mvt_write(const mvt_tile *tile, mvt_bytes *out, mvt_rows_fault *fault
  * return MVT_TOO_LARGE; MVT_NO_TILE; MVT_NO_MEMORY, also for overlapping spans as in mvt_write. */
 mvt_status mvt_judge_rows(const mvt_tile *tile, mvt_rows_fault *fault);
 
-/* The cause of an mvt_rows_fault in plain words: a constant text, also for an unknown cause. */
+/* The cause of an mvt_rows_fault in plain words: a constant text, also for an unknown cause. mvt_cause_text says its rule. */
 const char *mvt_rows_cause_text(uint32_t cause);
 
 /* A decoder reads a tile that comes in pieces of any length. Begin with `mvt_decoder decoder = {0};`, which is no decoder

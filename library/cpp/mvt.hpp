@@ -139,13 +139,18 @@ public:
     using error::error;
     explicit no_tile(const mvt_rows_fault &fault) : error(line_of(fault)), fault_(fault) {}
 
-    /// The layer, the feature if the fault is in one, and the cause.
+    /// The layer, the feature if the fault is in one, and the cause; of a geometry that no commands draw also the rule that
+    /// it breaks, the part, and the point if it is broken at one.
     [[nodiscard]] std::optional<mvt_rows_fault> fault() const noexcept { return fault_; }
 
 private:
     static std::string line_of(const mvt_rows_fault &fault) {
-        const std::string feature = fault.has_feature ? " feature " + std::to_string(fault.feature) : "";
-        return "layer " + std::to_string(fault.layer) + feature + ": " + mvt_rows_cause_text(fault.cause);
+        std::string line = "layer " + std::to_string(fault.layer);
+        if (fault.has_feature) line += " feature " + std::to_string(fault.feature);
+        if (fault.rule == 0) return line + ": " + mvt_rows_cause_text(fault.cause);
+        line += " part " + std::to_string(fault.part);
+        if (fault.has_point) line += " point " + std::to_string(fault.point);
+        return line + ": " + mvt_cause_text(fault.rule);
     }
 
     std::optional<mvt_rows_fault> fault_;

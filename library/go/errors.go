@@ -78,16 +78,28 @@ func (n *NoLayer) Error() string {
 type NoTile struct {
 	// Layer and Feature are indices; Feature is -1 if the fault is in no feature.
 	Layer, Feature int64
-	// Cause is an mvt_rows_cause of mvt.h, and Sentence says it in plain words.
-	Cause    uint32
+	// Cause is an mvt_rows_cause of mvt.h.
+	Cause uint32
+	// Rule is the first rule that a geometry breaks which no commands draw, such as CauseZeroSegment; 0 for other causes.
+	Rule uint32
+	// Part is the index of the line or ring that breaks the rule, and Point that of the point in it; -1 if there is none.
+	Part, Point int64
+	// Sentence says the rule, or else the cause, in plain words.
 	Sentence string
 }
 
 func (n *NoTile) Error() string {
-	if n.Feature < 0 {
-		return fmt.Sprintf("layer %d: %s", n.Layer, n.Sentence)
+	said := fmt.Sprintf("layer %d", n.Layer)
+	if n.Feature >= 0 {
+		said += fmt.Sprintf(" feature %d", n.Feature)
 	}
-	return fmt.Sprintf("layer %d feature %d: %s", n.Layer, n.Feature, n.Sentence)
+	if n.Part >= 0 {
+		said += fmt.Sprintf(" part %d", n.Part)
+	}
+	if n.Point >= 0 {
+		said += fmt.Sprintf(" point %d", n.Point)
+	}
+	return said + ": " + n.Sentence
 }
 
 // errorOf says what a status means. The bytes are those that the call took, and the fault is what it told.
@@ -133,10 +145,18 @@ func refusedOf(tile []byte, fault *C.mvt_fault) *Refused {
 
 // noTile is what is wrong with rows that are no valid tile, as an error.
 func noTile(fault *C.mvt_rows_fault) error {
-	told := &NoTile{Layer: int64(fault.layer), Feature: -1, Cause: uint32(fault.cause)}
+	told := &NoTile{Layer: int64(fault.layer), Feature: -1, Cause: uint32(fault.cause), Part: -1, Point: -1}
 	if fault.has_feature == 1 {
 		told.Feature = int64(fault.feature)
 	}
-	told.Sentence = C.GoString(C.mvt_rows_cause_text(fault.cause))
+	if fault.rule == 0 {
+		told.Sentence = C.GoString(C.mvt_rows_cause_text(fault.cause))
+		return told
+	}
+	told.Rule, told.Part = uint32(fault.rule), int64(fault.part)
+	if fault.has_point == 1 {
+		told.Point = int64(fault.point)
+	}
+	told.Sentence = C.GoString(C.mvt_cause_text(fault.rule))
 	return told
 }

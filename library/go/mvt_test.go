@@ -269,6 +269,15 @@ func TestWhatGoesWrongIsTold(t *testing.T) {
 	if !errors.As(err, &told) || told.Layer != 0 || told.Feature != 0 || told.Cause != 17 {
 		t.Fatal(err)
 	}
+	same(t, "rule", []any{told.Rule, told.Part, told.Point}, []any{uint32(mvt.CauseCount), int64(0), int64(-1)})
+	same(t, "words", err.Error(), "layer 0 feature 0 part 0: The command has a count that isn't allowed here.")
+	line := []mvt.Point{{0, 0}, {1, 1}, {1, 1}}
+	_, err = builder.Layer("a", 4096).Feature(mvt.Lines).Line().Points(line...).Finish()
+	same(t, "a point", errors.As(err, &told) && told.Rule == mvt.CauseZeroSegment && told.Point == 2, true)
+	same(t, "its words", err.Error(), "layer 0 feature 0 part 0 point 2: A line goes nowhere: this LineTo moves by (0, 0).")
+	_, err = builder.Layer("a", 4096).Layer("a", 4096).Finish()
+	same(t, "no rule", errors.As(err, &told) && told.Rule == 0 && told.Part == -1 && told.Point == -1, true)
+	same(t, "a layer's words", err.Error(), "layer 1: an earlier layer has the layer's name")
 	_, err = builder.Points(mvt.Point{}).Finish()
 	same(t, "turn", err, mvt.ErrOutOfTurn)
 	_, err = builder.Layer("a", 1).Feature(mvt.Points).Tag("a", []int{}).Finish()

@@ -32,6 +32,8 @@ const (
 	CauseRepeatedName    uint32 = 24
 	CauseTooLarge        uint32 = 25
 	CauseParameterRange  uint32 = 26
+	CauseExteriorRing    uint32 = 27
+	CauseInteriorRing    uint32 = 28
 )
 
 // The notes.

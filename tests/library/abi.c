@@ -38,6 +38,8 @@ static_assert(MVT_CAUSE_ENDS_EARLY == 23, "MVT_CAUSE_ENDS_EARLY");
 static_assert(MVT_CAUSE_REPEATED_NAME == 24, "MVT_CAUSE_REPEATED_NAME");
 static_assert(MVT_CAUSE_TOO_LARGE == 25, "MVT_CAUSE_TOO_LARGE");
 static_assert(MVT_CAUSE_PARAMETER_RANGE == 26, "MVT_CAUSE_PARAMETER_RANGE");
+static_assert(MVT_CAUSE_EXTERIOR_RING == 27, "MVT_CAUSE_EXTERIOR_RING");
+static_assert(MVT_CAUSE_INTERIOR_RING == 28, "MVT_CAUSE_INTERIOR_RING");
 static_assert(MVT_UNKNOWN == 0, "MVT_UNKNOWN");
 static_assert(MVT_POINTS == 1, "MVT_POINTS");
 static_assert(MVT_LINES == 2, "MVT_LINES");
@@ -203,11 +205,15 @@ static_assert(sizeof(mvt_findings) == 16, "mvt_findings");
 static_assert(offsetof(mvt_findings, rows) == 0, "mvt_findings: rows");
 static_assert(offsetof(mvt_findings, count) == 8, "mvt_findings: count");
 
-static_assert(sizeof(mvt_rows_fault) == 24, "mvt_rows_fault");
+static_assert(sizeof(mvt_rows_fault) == 48, "mvt_rows_fault");
 static_assert(offsetof(mvt_rows_fault, layer) == 0, "mvt_rows_fault: layer");
 static_assert(offsetof(mvt_rows_fault, feature) == 8, "mvt_rows_fault: feature");
 static_assert(offsetof(mvt_rows_fault, has_feature) == 16, "mvt_rows_fault: has_feature");
 static_assert(offsetof(mvt_rows_fault, cause) == 20, "mvt_rows_fault: cause");
+static_assert(offsetof(mvt_rows_fault, rule) == 24, "mvt_rows_fault: rule");
+static_assert(offsetof(mvt_rows_fault, has_point) == 28, "mvt_rows_fault: has_point");
+static_assert(offsetof(mvt_rows_fault, part) == 32, "mvt_rows_fault: part");
+static_assert(offsetof(mvt_rows_fault, point) == 40, "mvt_rows_fault: point");
 
 static_assert(sizeof(mvt_decoder) == 8, "mvt_decoder");
 static_assert(offsetof(mvt_decoder, held) == 0, "mvt_decoder: held");

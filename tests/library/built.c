@@ -374,8 +374,63 @@ static void judge_rows(void) {
         require(fault.cause == (cause == 0 ? 99 : cause), "the cause of rows that are no tile");
         require(cause == 0 || (fault.layer == layer && fault.has_feature == (feature >= 0)), "the layer of such rows");
         require(cause == 0 || fault.feature == (feature < 0 ? 0 : (uint64_t)feature), "the feature of such rows");
+        require(fault.rule == (cause == MVT_ROWS_DRAWING ? MVT_CAUSE_COUNT : 0) && fault.has_point == 0 && fault.part == 0 &&
+                    fault.point == 0, "the rule of such rows");
         require(strlen(mvt_rows_cause_text(cause)) > 15, "the text of such a cause");
         mvt_bytes_free(&out);
+    }
+}
+
+/* Geometries that no commands draw: the rule that each breaks first, the part, and the point or -1. */
+static const struct {
+    mvt_kind kind;
+    uint32_t rule;
+    uint64_t part;
+    int64_t point;
+    size_t count;       /* of parts */
+    mvt_part parts[3];
+    mvt_point points[8];
+} UNDRAWN[] = {
+    {MVT_POINTS, MVT_CAUSE_COUNT, 0, -1, 1, {{0, {0, 0}}}, {{0, 0}}},
+    {MVT_POINTS, MVT_CAUSE_PARAMETER_RANGE, 0, 1, 1, {{0, {0, 2}}}, {{INT32_MAX, 0}, {-1, 0}}},
+    {MVT_LINES, MVT_CAUSE_ENDS_EARLY, 0, -1, 0, {{0, {0, 0}}}, {{0, 0}}},
+    {MVT_LINES, MVT_CAUSE_COUNT, 1, -1, 2, {{0, {0, 2}}, {0, {2, 1}}}, {{0, 0}, {1, 1}, {5, 5}}},
+    {MVT_LINES, MVT_CAUSE_ZERO_SEGMENT, 1, 2, 2, {{0, {0, 2}}, {0, {1, 4}}}, {{0, 0}, {1, 1}, {2, 1}, {2, 1}, {3, 1}}},
+    {MVT_LINES, MVT_CAUSE_COORDINATE_RANGE, 0, 1, 1, {{0, {0, 2}}}, {{-1, 0}, {INT32_MIN, 0}}},
+    {MVT_POLYGONS, MVT_CAUSE_ENDS_EARLY, 0, -1, 0, {{0, {0, 0}}}, {{0, 0}}},
+    {MVT_POLYGONS, MVT_CAUSE_COUNT, 0, -1, 1, {{1, {0, 2}}}, {{0, 0}, {1, 1}}},
+    {MVT_POLYGONS, MVT_CAUSE_FIRST_RING, 0, -1, 1, {{1, {0, 3}}}, {{0, 0}, {1, 3}, {3, 1}}},
+    {MVT_POLYGONS, MVT_CAUSE_EXTERIOR_RING, 2, -1, 3, {{1, {0, 4}}, {1, {0, 4}}, {1, {4, 3}}},
+     {{0, 0}, {9, 0}, {9, 9}, {0, 9}, {1, 1}, {2, 2}, {3, 3}}},
+    {MVT_POLYGONS, MVT_CAUSE_INTERIOR_RING, 1, -1, 2, {{1, {0, 4}}, {0, {4, 4}}},
+     {{0, 0}, {9, 0}, {9, 9}, {0, 9}, {1, 1}, {5, 1}, {5, 5}, {1, 5}}},
+};
+
+static void judge_rules(void) {
+    for (size_t of = 0; of < sizeof UNDRAWN / sizeof *UNDRAWN; ++of) {
+        const mvt_part *parts = UNDRAWN[of].parts;
+        const size_t count = UNDRAWN[of].count;
+        const mvt_feature features[] = {{.kind = MVT_UNKNOWN}, {.kind = UNDRAWN[of].kind, .parts = {0, count}}};
+        const mvt_layer layer = {.version = 2, .extent = 4096, .features = {0, 2}};
+        const mvt_tile tile = {.layers = &layer, .layer_count = 1, .features = features, .feature_count = 2, .parts = parts,
+                               .part_count = count, .points = UNDRAWN[of].points, .point_count = 8};
+        const int64_t point = UNDRAWN[of].point;
+        const mvt_rows_fault wanted = {.feature = 1, .has_feature = 1, .cause = MVT_ROWS_DRAWING, .rule = UNDRAWN[of].rule,
+                                       .has_point = point >= 0, .part = UNDRAWN[of].part,
+                                       .point = point < 0 ? 0 : (uint64_t)point};
+        mvt_rows_fault judged, written, built;
+        mvt_bytes out = {0};
+        require(mvt_judge_rows(&tile, &judged) == MVT_NO_TILE, "a geometry that isn't drawn is judged");
+        require(memcmp(&judged, &wanted, sizeof wanted) == 0, "the rule, the part and the point");
+        require(mvt_write(&tile, &out, &written) == MVT_NO_TILE && out.data == NULL, "and is written");
+        require(memcmp(&written, &wanted, sizeof wanted) == 0, "the same");
+        mvt_builder builder = {0};
+        mvt_builder_layer(&builder, mvt_text("a"), 4096);
+        mvt_builder_feature(&builder, MVT_UNKNOWN);
+        mvt_builder_add(&builder, UNDRAWN[of].kind, NULL, NULL, 0, parts, count, UNDRAWN[of].points, 8);
+        require(mvt_builder_finish(&builder, &out, &built) == MVT_NO_TILE && out.data == NULL, "and is built");
+        require(memcmp(&built, &wanted, sizeof wanted) == 0, "the same again");
+        require(mvt_cause_text(judged.rule)[0] != 'n', "a text of the rule");
     }
 }
 
@@ -449,6 +504,7 @@ int main(int argc, char **argv) {
     build_out_of_turn();
     build_no_tile();
     judge_rows();
+    judge_rules();
     judge_in_order();
     write_what_nothing_names();
     write_overlaps();

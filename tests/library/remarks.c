@@ -122,7 +122,7 @@ static void look(const char *path) {
 /* What has a number has a text, and what has none has another. */
 static void texts(void) {
     const char *(*const calls[])(uint32_t) = {mvt_cause_text, mvt_note_text, mvt_finding_text};
-    const uint32_t last[] = {MVT_CAUSE_PARAMETER_RANGE, MVT_NOTE_CLOSED_TWICE, MVT_FINDING_LARGE_NUMBER};
+    const uint32_t last[] = {MVT_CAUSE_INTERIOR_RING, MVT_NOTE_CLOSED_TWICE, MVT_FINDING_LARGE_NUMBER};
     for (int of = 0; of < 3; ++of)
         for (uint32_t number = 0; number <= last[of] + 1; ++number) {
             const char *text = calls[of](number);

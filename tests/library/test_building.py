@@ -141,7 +141,25 @@ class Building(unittest.TestCase):
         with self.assertRaises(mvt.NoTile) as caught:
             mvt.Builder().layer("a").layer("a").finish()
         self.assertEqual((caught.exception.layer, caught.exception.feature, caught.exception.cause), (1, None, 19))
+        self.assertEqual((caught.exception.rule, caught.exception.part, caught.exception.point), (None, None, None))
         self.assertEqual(str(caught.exception), "layer 1: an earlier layer has the layer's name")
+
+    def test_what_no_commands_draw(self):
+        square, turned = [(0, 0), (9, 0), (9, 9), (0, 9)], [(0, 0), (1, 3), (3, 1)]
+        lines, polygons = [[(0, 0), (1, 1)], [(2, 2), (3, 3), (3, 3)]], [[turned]]
+        for kind, drawn, rule, part, point, said in [
+            ("lines", lines, "ZeroSegment", 1, 2, " part 1 point 2: A line goes nowhere"),
+            ("lines", [[(1, 1)]], "Count", 0, None, " part 0: The command has a count"),
+            ("polygons", polygons, "FirstRing", 0, None, " part 0: The first ring goes the wrong way round"),
+            ("polygons", [[square, square]], "InteriorRing", 1, None, " part 1: A hole goes the wrong way round"),
+            ("polygons", [[square], [turned]], "ExteriorRing", 1, None, " part 1: A further exterior ring"),
+        ]:
+            with self.subTest(rule=rule), self.assertRaises(mvt.NoTile) as caught:
+                mvt.write(mvt.Tile([mvt.Layer("a", 4096, [mvt.Feature(None, {}, kind, drawn)])]))
+            why = caught.exception
+            self.assertEqual((why.layer, why.feature, why.cause, mvt.CAUSES[why.rule]), (0, 0, 17, rule))
+            self.assertEqual((why.part, why.point), (part, point))
+            self.assertTrue(str(why).startswith("layer 0 feature 0" + said), str(why))
 
     def test_a_builder_begins_anew_after_what_is_no_tile(self):
         builder = mvt.Builder().layer("a").feature("unknown")

@@ -194,8 +194,10 @@ class WholeTiles(unittest.TestCase):
             self.assertEqual(mvt.Finding(kind, 0).explanation.lower(), f"{when}. {happens}.".lower())
 
     def test_causes_are_those_of_the_document(self):
-        rules = re.findall(r"^\| (\d+) \| (\w+) \|", (TILES.parent.parent / "docs" / "FORMAT.md").read_text(), re.MULTILINE)
-        self.assertEqual({int(number): name for number, name in rules}, mvt.CAUSES)
+        document = (TILES.parent.parent / "docs" / "FORMAT.md").read_text()
+        rules = re.findall(r"^\| (\d+) \| (\w+) \|", document, re.MULTILINE)
+        of_rows = [(number, name) for name, number in re.findall(r"^\| (\w+) \| (\d+) \|", document, re.MULTILINE)]
+        self.assertEqual({int(number): name for number, name in rules + of_rows}, mvt.CAUSES)
         self.assertEqual([cause_text(number)[-1] for number in mvt.CAUSES], ["."] * len(mvt.CAUSES))
         self.assertEqual([text(99) for text in (cause_text, note_text, finding_text)],
                          ["no cause of this library", "no note of this library", "no finding of this library"])

@@ -319,6 +319,30 @@ void write(mvt::byte_span input) {
     require(false, "rows without their texts are written");
 }
 
+/// A geometry that no commands draw says which rule it breaks, and where.
+void undrawn() {
+    mvt::builder builder;
+    builder.layer("a").feature(MVT_LINES).line().point(0, 0).point(1, 1).line().point(2, 2).point(3, 3).point(3, 3);
+    try {
+        static_cast<void>(builder.finish());
+        require(false, "a line that stays is built");
+    } catch (const mvt::no_tile &why) {
+        const mvt_rows_fault fault = why.fault().value();
+        require(fault.cause == MVT_ROWS_DRAWING && fault.rule == MVT_CAUSE_ZERO_SEGMENT, "the rule that a line breaks");
+        require(fault.part == 1 && fault.has_point == 1 && fault.point == 2, "and where");
+        const std::string wanted = std::string("layer 0 feature 0 part 1 point 2: ") + mvt_cause_text(MVT_CAUSE_ZERO_SEGMENT);
+        require(why.what() == wanted, "and in words");
+    }
+    builder.layer("a").feature(MVT_POLYGONS).ring(true).point(0, 0).point(1, 3).point(3, 1);
+    try {
+        static_cast<void>(builder.finish());
+        require(false, "a ring that runs the wrong way round is built");
+    } catch (const mvt::no_tile &why) {
+        const std::string wanted = std::string("layer 0 feature 0 part 0: ") + mvt_cause_text(MVT_CAUSE_FIRST_RING);
+        require(why.what() == wanted, "a ring's rule in words");
+    }
+}
+
 /// A tile that comes in pieces is the one that comes whole; a finished decoder takes no more.
 void pieces(mvt::byte_span input) {
     for (const std::size_t size : {1, 7, 4096}) {
@@ -409,7 +433,7 @@ void call(const std::string &command, const std::vector<std::string_view> &names
     if (command == "lend") return lend();
     if (command == "mix") return mix(input);
     if (command == "explain") return explain();
-    if (command == "build") return build(), range(), equal();
+    if (command == "build") return build(), range(), equal(), undrawn();
     if (command == "kinds") return kinds(input);
     if (command == "pieces") return pieces(input);
     if (command == "write") return write(input);

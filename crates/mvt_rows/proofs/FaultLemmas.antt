@@ -36,6 +36,7 @@ use Rattle.mvt_rows.specs.declared.rows_error.RowPartError.TheVariants as parts
 use Rattle.mvt_rows.specs.declared.rows_error.RowError.{RowError}
 use Rattle.mvt_rows.specs.declared.rows_error.RowError.TheVariants.{Memory, Wrong}
 use Rattle.mvt_rows.specs.declared.writing.layers.LayerParts.{LayerParts}
+use Rattle.mvt_rows.specs.declared.undrawn.Undrawn.{Undrawn}
 use Rattle.mvt_rows.specs.Drawing.{AreDrawnIf, IsUndrawable}
 use Rattle.mvt_rows.specs.RowsFaults.{IsFaultOf, IsFeatureWrong, IsFeatureWrongIn, IsFirstWrong, IsForeignWrong, IsInsideWrong, IsLayerWrongBy, IsRowWrong, IsUndrawn, IsValidFeatureOf, IsValidItemOf, IsWrongBy, feature_cause, geometry_cause, name_cause, of_tag_cause, or_wrong, parts_cause}
 use Rattle.mvt_rows.specs.Tables.{Table}
@@ -87,17 +88,18 @@ pub row_wrong : (t : Table) (keys : List (List ℕ)) (values : List Value) (row 
     → (f ≡ None) × (feature_cause t keys values row ≡ Some c) → IsFeatureWrong t keys values row f c
 row_wrong t keys values row f c h = (h.0, subst (λ o. IsWrongBy o (geometry_of t row) c) (sym h.1) refl)
 
-is_undrawn : (of_rows : Option AGeometry) → IsUndrawable of_rows → IsUndrawn of_rows Drawing
-is_undrawn None h = h
-is_undrawn (Some g) h = (refl, h)
+is_undrawn : (of_rows : Option AGeometry) (found : Undrawn) → IsUndrawable of_rows found → IsUndrawn of_rows (Drawing found)
+is_undrawn None found h = h
+is_undrawn (Some g) found h = record { undrawn = found; rule = h.1; cause_is = refl; invalid = h.0 }
 
-pub undrawn : (t : Table) (keys : List (List ℕ)) (values : List Value) (row : FeatureRow) (integers : List ℕ) (kind : Option AKind)
-    → feature_cause t keys values row ≡ None → AreDrawnIf (geometry_of t row) kind integers → kind ≡ None
-    → IsFeatureWrong t keys values row None Drawing
-undrawn t keys values row integers kind clean drawn none = (
+pub undrawn : (t : Table) (keys : List (List ℕ)) (values : List Value) (row : FeatureRow) (integers : List ℕ) (kind : Result AKind Undrawn)
+    (found : Undrawn)
+    → feature_cause t keys values row ≡ None → AreDrawnIf (geometry_of t row) kind integers → kind ≡ Err found
+    → IsFeatureWrong t keys values row None (Drawing found)
+undrawn t keys values row integers kind found clean drawn refused = (
   refl,
-  subst (λ o. IsWrongBy o (geometry_of t row) Drawing) (sym clean)
-      (is_undrawn (geometry_of t row) (subst (λ k. AreDrawnIf (geometry_of t row) k integers) none drawn)),
+  subst (λ o. IsWrongBy o (geometry_of t row) (Drawing found)) (sym clean)
+      (is_undrawn (geometry_of t row) found (subst (λ k. AreDrawnIf (geometry_of t row) k integers) refused drawn)),
 )
 
 first_here : {X : Type 0} → (xs : List X) (i : ℕ) (d : X) → i < length xs → slice_get xs i ≡ Some (get_or xs i d)
@@ -223,7 +225,7 @@ pub feature_right : (t : Table) (keys : List (List ℕ)) (values : List Value) (
     → IsFeature t keys values row f → ValidFeature f → IsWrongBy (feature_cause t keys values row) (geometry_of t row) c → ⊥
 feature_right t keys values row f c is valid wrong =
     (subst (λ o. IsUndrawn o c) is.geometry
-    (subst (λ o. IsWrongBy o (geometry_of t row) c) (feature_clean t keys values row f is) wrong)).1 valid.drawn
+    (subst (λ o. IsWrongBy o (geometry_of t row) c) (feature_clean t keys values row f is) wrong)).invalid valid.drawn
 
 -- the features of a layer that can be written
 layer_right : (t : Table) (row : LayerRow) (keys : List (List ℕ)) (values : List Value) (rows : List FeatureRow) (features : List Feature)

@@ -1,5 +1,6 @@
 pub mod RowsLaws
 mod EachLemmas
+mod UndrawnLemmas
 mod DrawingLemmas
 mod TileLemmas
 mod WholeLemmas

@@ -16,6 +16,7 @@ use Rattle.mvt_rows.specs.declared.rows.FeatureRow.{FeatureRow}
 use Rattle.mvt_rows.specs.declared.rows.LayerRow.{LayerRow}
 use Rattle.mvt_rows.specs.declared.rows_cause.RowsCause.{RowsCause}
 use Rattle.mvt_rows.specs.declared.rows_cause.RowsFault.{RowsFault}
+use Rattle.mvt_rows.specs.declared.rows_cause.RowsCause.TheVariants.{Drawing}
 use Rattle.mvt_rows.specs.RowsFaults.{IsFaultOf, IsFirstWrong, IsForeignWrong, IsInsideWrong, IsLayerWrongBy, IsRowWrong, IsUndrawn, IsValidFeatureOf, IsValidItemOf, IsWrongBy, feature_cause, name_cause}
 use Rattle.mvt_rows.specs.Tables.{Table}
 use Rattle.mvt_rows.specs.TileRows.{geometry_of, part_of}
@@ -42,7 +43,7 @@ front_at R xs i j x ys there less are =
 
 undrawn_once : (g : Option AGeometry) (c d : RowsCause) → IsUndrawn g c → IsUndrawn g d → c ≡ d
 undrawn_once None c d h k = absurd h
-undrawn_once (Some g) c d h k = h.0 ∙ sym k.0
+undrawn_once (Some g) c d h k = h.cause_is ∙ ap Drawing (same_Some h.undrawn k.undrawn (sym h.rule ∙ k.rule)) ∙ sym k.cause_is
 
 wrong_once : (o : Option RowsCause) (g : Option AGeometry) (c d : RowsCause) → IsWrongBy o g c → IsWrongBy o g d → c ≡ d
 wrong_once None g c d h k = undrawn_once g c d h k

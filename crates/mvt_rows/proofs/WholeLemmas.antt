@@ -4,7 +4,6 @@ use Rattle.std.specs.declared.alloc.AllocError.{AllocError}
 use Rattle.std.proofs.lemmas.Bool.{false≢true}
 use Rattle.mvt_rows.specs.declared.builder.Builder.{Builder}
 use Rattle.mvt_rows.specs.declared.builder.OpenFeature.{OpenFeature}
-use Rattle.mvt_rows.specs.declared.builder.Turn.TheVariants as turn
 use Rattle.mvt_rows.specs.Building.{HasTold, Holds, IsStep, has_layer}
 use Rattle.mvt_rows.specs.Tables.{Table}
 use Rattle.mvt_rows.specs.Told.{Told, ToldFeature, ToldLayer, Begun, Nothing, InLayer, InFeature, InPart, begin_feature, feature_ended, feature_in, in_layer, new_feature, whole_feature, with_begun, with_feature, with_part}

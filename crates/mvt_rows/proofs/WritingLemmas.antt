@@ -1,5 +1,5 @@
 -- What is written of rows, row by row.
-use Rattle.std.proofs.Common.{◌≡◌, ℕ, ◌+◌, ◌<◌, ◌≤◌, ◌^◌, Bool, true, false, ◌||◌, List, [], ◌∷◌, ◌++◌, append-nil, not, if◌then◌else◌, ◌≢◌, length, take, drop, get_or, bytes_eq, IsUtf8, Option, Some, None, Vec, Global, Result, IfOk, IfErr, refl, sym, ap, ap₂, ◌∙◌, subst}
+use Rattle.std.proofs.Common.{◌≡◌, ℕ, ◌+◌, ◌<◌, ◌≤◌, ◌^◌, Bool, true, false, ◌||◌, List, [], ◌∷◌, ◌++◌, append-nil, not, if◌then◌else◌, ◌≢◌, length, take, drop, get_or, bytes_eq, IsUtf8, Option, Some, None, Vec, Global, Result, Ok, IfOk, IfErr, refl, sym, ap, ap₂, ◌∙◌, subst}
 use Rattle.std.specs.List.{AllByRecursion, list_any, flat_map}
 use Rattle.std.specs.Option.{option_and_then, ok_or}
 use Rattle.std.specs.Str.{is_utf8}
@@ -82,7 +82,7 @@ related_at R (z ∷ front) x back (y ∷ ys) h =
 
 pub feature_of_parts : (t : Table) (keys : List (List ℕ)) (values : List Value) (row : FeatureRow) (integers : List ℕ)
     (parts : FeatureParts)
-    (kind : Kind) → AreInRange keys values → AreFeatureParts t keys values row integers parts → parts.kind ≡ Some kind
+    (kind : Kind) → AreInRange keys values → AreFeatureParts t keys values row integers parts → parts.kind ≡ Ok kind
     → (f : Feature) × (f.id ≡ parts.id) × Draws kind integers f.geometry × Names keys values parts.tags.now f.attributes
     × IsValidFeatureOf t keys values row f
 feature_of_parts t keys values row integers parts kind range are is =

@@ -2,6 +2,7 @@ pub mod Tables
 pub mod Lent
 pub mod TileRows
 pub mod ReadTables
+pub mod Undrawn
 pub mod Drawing
 pub mod Written
 pub mod Writing

@@ -25,8 +25,10 @@ use Rattle.mvt_rows.specs.declared.rows.FeatureRow.{FeatureRow}
 use Rattle.mvt_rows.specs.declared.rows_cause.RowsCause.{RowsCause}
 use Rattle.mvt_rows.specs.declared.rows_cause.RowsCause.TheVariants.{NameSpan, NameText, KeysSpan, Key, ValuesSpan, Value as ValueCause, FeaturesSpan, BytesSpan, HasId, TagsSpan, OddTags, KeyIndex, ValueIndex, RepeatedKey, Kind, Geometry, Drawing, Bytes, RepeatedName}
 use Rattle.mvt_rows.specs.declared.rows_cause.RowsFault.{RowsFault}
+use Rattle.mvt_rows.specs.declared.undrawn.Undrawn.{Undrawn}
 use Rattle.mvt_rows.specs.Tables.{Table}
 use Rattle.mvt_rows.specs.TileRows.{each, part_of, utf8_of, text_of, value_of, id_of, geometry_of, keys_of, values_of, IsFeature, IsLayer, IsItem, IsTileOf}
+use Rattle.mvt_rows.specs.Undrawn.{undrawn_by}
 
 -- the numbers of causes in mvt.h
 abbrev pub rows_cause_number : RowsCause → ℕ
@@ -46,7 +48,7 @@ rows_cause_number ValueIndex = 13
 rows_cause_number RepeatedKey = 14
 rows_cause_number Kind = 15
 rows_cause_number Geometry = 16
-rows_cause_number Drawing = 17
+rows_cause_number (Drawing undrawn) = 17
 rows_cause_number Bytes = 18
 rows_cause_number RepeatedName = 19
 
@@ -83,10 +85,16 @@ IsValidLayerOf t row layer = IsLayer t row layer × ValidLayer layer
 abbrev pub IsValidItemOf : Table → LayerRow → Item → Type 0
 IsValidItemOf t row item = IsItem t row item × ValidItem item
 
--- no commands draw the geometry of a row that names one (4.3)
+-- no commands draw the geometry of a row that names one (4.3), and this is the first rule that it breaks
+pub record IsUndrawnBy (geometry : AGeometry) (cause : RowsCause) : Type 0 where
+  pub undrawn : Undrawn
+  pub rule : undrawn_by geometry ≡ Some undrawn
+  pub cause_is : cause ≡ Drawing undrawn
+  pub invalid : IsValid geometry → ⊥
+
 abbrev pub IsUndrawn : Option AGeometry → RowsCause → Type 0
 IsUndrawn None cause = ⊥
-IsUndrawn (Some geometry) cause = (cause ≡ Drawing) × (IsValid geometry → ⊥)
+IsUndrawn (Some geometry) cause = IsUndrawnBy geometry cause
 
 -- the first that is wrong with a feature: its row, or what is drawn
 abbrev pub IsWrongBy : Option RowsCause → Option AGeometry → RowsCause → Type 0

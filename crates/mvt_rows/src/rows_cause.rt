@@ -2,6 +2,7 @@
 ghost use Rattle.std.specs.Prelude.{◌≡◌};
 ghost use Rattle.mvt_rows.specs.RowsFaults.{of_tag_cause, rows_cause_number};
 
+use crate::undrawn::Undrawn;
 use mvt_attrs::TagCause;
 
 /// What is wrong with rows.
@@ -45,8 +46,9 @@ pub enum RowsCause {
     /// nor 1, a polygon begins with an interior ring, or points aren't one part.
     Geometry,
     /// No commands draw a feature's geometry: a line is too short or goes nowhere, a ring has no
-    /// area or runs the wrong way round, or a position or a number is out of its range (4.3).
-    Drawing,
+    /// area or runs the wrong way round, or a position or a number is out of its range (4.3). It
+    /// has the rule, the part and the point.
+    Drawing(Undrawn),
     /// The bytes of a layer of another version aren't fields with that version.
     Bytes,
     /// An earlier layer has the name of a layer.
@@ -75,7 +77,7 @@ impl RowsCause {
             RowsCause::RepeatedKey => 14,
             RowsCause::Kind => 15,
             RowsCause::Geometry => 16,
-            RowsCause::Drawing => 17,
+            RowsCause::Drawing(_) => 17,
             RowsCause::Bytes => 18,
             RowsCause::RepeatedName => 19,
         }

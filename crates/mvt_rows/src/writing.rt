@@ -19,6 +19,7 @@ mod features;
 mod geometries;
 mod layers;
 mod parts;
+mod refused;
 mod values;
 
 use crate::rows::{LayerRow, Rows};

@@ -5,8 +5,8 @@ use crate::shapes::geometry_of;
 use mvt_base::{Items, Text};
 use mvt_message::{Feature, Item, Layer};
 use mvt_rows::{
-    FeatureRow, LayerRow, PartRow, PointRow, Rows, RowsCause, RowsError, RowsFault, Span,
-    write_rows,
+    DrawingRule, FeatureRow, LayerRow, PartRow, PointRow, Rows, RowsCause, RowsError, RowsFault,
+    Span, Undrawn, write_rows,
 };
 use mvt_tile::{Tile, encode, validate};
 use std::alloc::Global;
@@ -710,26 +710,56 @@ fn writes_what_can_be_drawn(rt: HostRuntime) {
     }
 }
 
-// Why the feature of rows isn't drawn: it is of no kind, its parts are none, or they can't be
-// drawn.
-fn cause_of(rt: &(impl Abort + AllocGlobal), rows: &Rows) -> RowsCause {
+// Which rule each of these breaks, in which part and at which point; nothing where it has no
+// geometry to be drawn.
+const RULES: [Option<(DrawingRule, usize, Option<usize>)>; 21] = [
+    Some((DrawingRule::EndsEarly, 0, None)),
+    Some((DrawingRule::Count, 0, None)),
+    Some((DrawingRule::Count, 1, None)),
+    Some((DrawingRule::ZeroSegment, 0, Some(2))),
+    Some((DrawingRule::ParameterRange, 0, Some(1))),
+    Some((DrawingRule::ParameterRange, 0, Some(1))),
+    Some((DrawingRule::ParameterRange, 1, Some(0))),
+    Some((DrawingRule::Count, 0, None)),
+    None,
+    None,
+    Some((DrawingRule::ParameterRange, 0, Some(0))),
+    Some((DrawingRule::EndsEarly, 0, None)),
+    Some((DrawingRule::Count, 0, None)),
+    Some((DrawingRule::FirstRing, 0, None)),
+    None,
+    Some((DrawingRule::InteriorRing, 1, None)),
+    Some((DrawingRule::ExteriorRing, 1, None)),
+    None,
+    Some((DrawingRule::ZeroSegment, 0, Some(2))),
+    None,
+    None,
+];
+
+// Why the feature of rows isn't drawn: it is of no kind, its parts are none, or they break this rule.
+fn cause_of(
+    rt: &(impl Abort + AllocGlobal),
+    rows: &Rows,
+    rule: Option<(DrawingRule, usize, Option<usize>)>,
+) -> RowsCause {
     let row = rows.features.first().expect(rt, "a feature");
     if row.kind > 3 {
         return RowsCause::Kind;
     }
-    match geometry_of(rt.alloc(), rows, row) {
-        Some(_) => RowsCause::Drawing,
-        None => RowsCause::Geometry,
+    if geometry_of(rt.alloc(), rows, row).is_none() {
+        return RowsCause::Geometry;
     }
+    let (rule, part, point) = rule.expect(rt, "a rule");
+    RowsCause::Drawing(Undrawn { rule, part, point })
 }
 
 #[test]
 fn refuses_what_cannot_be_drawn(rt: HostRuntime) {
-    for rows in &NOT_DRAWN {
+    for (rows, rule) in NOT_DRAWN.iter().zip(&RULES) {
         let fault = RowsFault {
             layer: 0,
             feature: Some(0),
-            cause: cause_of(&rt, rows),
+            cause: cause_of(&rt, rows, *rule),
         };
         let error = write_rows(rt.alloc(), rows).err();
         expect_eq!(rt; error, Some(RowsError::NoTile(fault)));

@@ -17,6 +17,8 @@ mod rows;
 #[cfg(test)]
 mod shapes;
 #[cfg(test)]
+mod undrawn;
+#[cfg(test)]
 mod view;
 #[cfg(test)]
 mod visiting_rows;

@@ -2,8 +2,9 @@
 use crate::expect::{expect, expect_eq};
 use mvt_message::Cause;
 use mvt_rows::{
-    FeatureRow, LayerRow, PartRow, PointRow, Rows, RowsCause, RowsDecoder, RowsError, RowsFault,
-    RowsVisitor, Span, ValueRow, read_layer, read_rows, read_rows_within, rows_fault, write_rows,
+    DrawingRule, FeatureRow, LayerRow, PartRow, PointRow, Rows, RowsCause, RowsDecoder, RowsError,
+    RowsFault, RowsVisitor, Span, Undrawn, ValueRow, read_layer, read_rows, read_rows_within,
+    rows_fault, write_rows,
 };
 use mvt_tile::{DecodeError, Fault, Tile, decode, encode, validate};
 use std::process::Abort;
@@ -348,9 +349,15 @@ const UNDRAWN: Rows = Rows {
     ..ONE_POINT
 };
 
+const FAR_POINT: RowsCause = RowsCause::Drawing(Undrawn {
+    rule: DrawingRule::ParameterRange,
+    part: 0,
+    point: Some(0),
+});
+
 #[test]
 fn finds_what_cannot_be_written(rt: HostRuntime) {
-    expect_fault(&rt, &UNDRAWN, 0, Some(0), RowsCause::Drawing);
+    expect_fault(&rt, &UNDRAWN, 0, Some(0), FAR_POINT);
     let bytes = Rows {
         points: ONE_POINT.points,
         texts: b"ab\x78\x03",
@@ -371,7 +378,7 @@ fn finds_what_is_wrong_layer_by_layer(rt: HostRuntime) {
         texts: b"ab\x78",
         ..UNDRAWN
     };
-    expect_fault(&rt, &undrawn, 0, Some(0), RowsCause::Drawing);
+    expect_fault(&rt, &undrawn, 0, Some(0), FAR_POINT);
     let drawn = Rows {
         points: ONE_POINT.points,
         ..undrawn

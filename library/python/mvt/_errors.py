@@ -74,12 +74,17 @@ class NoTile(MvtError):
     """What was to be written is no valid tile.
 
     For rows, `layer` and `feature` are the indices of the first fault (`feature` is None if the fault is in no feature),
-    and `cause` is its number (`mvt_rows_cause` of mvt.h).
+    and `cause` is its number (`mvt_rows_cause` of mvt.h). Of a geometry that no commands draw `rule` is the number of the
+    first rule that it breaks (`mvt_cause`; `mvt.CAUSES` has the names), `part` the index of the line or ring, and `point`
+    that of the point in it (None if the part as a whole breaks the rule).
     """
 
     layer: Optional[int] = None
     feature: Optional[int] = None
     cause: Optional[int] = None
+    rule: Optional[int] = None
+    part: Optional[int] = None
+    point: Optional[int] = None
 
 
 class OutOfRange(NoTile, OverflowError):

@@ -29,6 +29,8 @@ CAUSES = {
     24: "RepeatedName",
     25: "TooLarge",
     26: "ParameterRange",
+    27: "ExteriorRing",
+    28: "InteriorRing",
 }
 
 NOTES = {

@@ -80,14 +80,20 @@ static int set_number(PyObject *object, const char *name, PyObject *number) {
 
 /* Raises what is wrong with rows that are no valid tile. */
 int raise_no_tile(const state *of, const mvt_rows_fault *wrong) {
-    const char *cause = mvt_rows_cause_text(wrong->cause);
-    const unsigned long long layer = wrong->layer, feature = wrong->feature;
-    PyObject *told = wrong->has_feature ? PyUnicode_FromFormat("layer %llu feature %llu: %s", layer, feature, cause)
-                                        : PyUnicode_FromFormat("layer %llu: %s", layer, cause);
+    const int has_rule = wrong->rule != 0;
+    const char *said = has_rule ? mvt_cause_text(wrong->rule) : mvt_rows_cause_text(wrong->cause);
+    char feature[32] = "", part[32] = "", point[32] = "";
+    if (wrong->has_feature) snprintf(feature, sizeof feature, " feature %llu", (unsigned long long)wrong->feature);
+    if (has_rule) snprintf(part, sizeof part, " part %llu", (unsigned long long)wrong->part);
+    if (wrong->has_point) snprintf(point, sizeof point, " point %llu", (unsigned long long)wrong->point);
+    PyObject *told = PyUnicode_FromFormat("layer %llu%s%s%s: %s", (unsigned long long)wrong->layer, feature, part, point, said);
     PyObject *why = told == NULL ? NULL : PyObject_CallFunctionObjArgs(of->no_tile, told, NULL);
-    if (why != NULL && set_number(why, "layer", PyLong_FromUnsignedLongLong(layer)) == 0 &&
-        set_number(why, "feature", number_or_none(wrong->has_feature != 0, feature)) == 0 &&
-        set_number(why, "cause", PyLong_FromUnsignedLong(wrong->cause)) == 0)
+    if (why != NULL && set_number(why, "layer", PyLong_FromUnsignedLongLong(wrong->layer)) == 0 &&
+        set_number(why, "feature", number_or_none(wrong->has_feature != 0, wrong->feature)) == 0 &&
+        set_number(why, "cause", PyLong_FromUnsignedLong(wrong->cause)) == 0 &&
+        set_number(why, "rule", number_or_none(has_rule, wrong->rule)) == 0 &&
+        set_number(why, "part", number_or_none(has_rule, wrong->part)) == 0 &&
+        set_number(why, "point", number_or_none(wrong->has_point != 0, wrong->point)) == 0)
         PyErr_SetObject(of->no_tile, why);
     Py_XDECREF(why);
     Py_XDECREF(told);

@@ -13,6 +13,7 @@ use super::values::truth;
 use crate::rows::{FeatureRow, Rows};
 use crate::rows_cause::RowsCause;
 use crate::rows_error::{RowError, if_any};
+use crate::undrawn::Undrawn;
 use crate::work::Work;
 use mvt_attrs::{LayerKeys, judge_tags};
 use mvt_geometry::Kind;
@@ -24,8 +25,8 @@ use std::alloc::Global;
 pub(crate) struct FeatureParts<'a> {
     pub(crate) id: Option<u64>,
     pub(crate) tags: &'a [u32],
-    /// The type of its geometry; `None` if no integers draw that.
-    pub(crate) kind: Option<Kind>,
+    /// The type of its geometry, or why no integers draw that.
+    pub(crate) kind: Result<Kind, Undrawn>,
 }
 
 /// What the row of a feature says, in a layer with these keys and this number of values. The

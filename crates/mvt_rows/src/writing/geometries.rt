@@ -1,17 +1,20 @@
 //! Geometries drawn straight from their rows.
-ghost use Rattle.std.specs.Prelude.{◌≡◌, ◌∷◌, ◌++◌, [], List, map, IfOk, IfErr, None, option_map};
+ghost use Rattle.std.specs.Prelude.{◌≡◌, ◌∷◌, ◌++◌, [], List, length, map, IfOk, IfErr, None, option_map};
 ghost use Rattle.mvt_geometry.specs.declared.shape.Geometry.TheVariants.{Lines, Polygons};
 ghost use Rattle.mvt_geometry.specs.declared.shape.Point.{Point as APoint};
 ghost use Rattle.mvt_geometry.specs.declared.shape.Polygon.{Polygon};
-ghost use Rattle.mvt_rows.specs.Drawing.{AreDrawnIf, DrawnLines, DrawnPolygons, IsFollowedBy, role_of as the_role_of};
+ghost use Rattle.mvt_rows.specs.Drawing.{AreDrawnIf, AreJudged, DrawnLines, DrawnPolygons, IsFollowedBy, role_of as the_role_of};
 ghost use Rattle.mvt_rows.specs.Lent.{table_of};
 ghost use Rattle.mvt_rows.specs.TileRows.{each, geometry_of, line_of, point_of, points_of, steps, with_ring_row};
+ghost use Rattle.mvt_rows.specs.Undrawn.{Stroke, a_line, a_ring};
 ghost use Rattle.mvt_rows.specs.Written.{IfNoPart};
 
 use super::parts::part;
+use super::refused::{refused_line, refused_points, refused_ring};
 use super::values::truth;
 use crate::rows::{FeatureRow, PartRow, PointRow, Rows};
 use crate::rows_error::RowPartError;
+use crate::undrawn::{DrawingRule, Undrawn};
 use crate::work::Work;
 use mvt_geometry::{
     Kind, PartError, Point, Position, RingRole, append_integers, append_line, append_points,
@@ -21,7 +24,7 @@ use mvt_wire::PackedNumbers;
 use std::alloc::AllocError;
 
 /// The cursor before the first part.
-const ORIGIN: Point = Point { x: 0, y: 0 };
+pub(crate) const ORIGIN: Point = Point { x: 0, y: 0 };
 
 impl Position for PointRow {
     ghost use Rattle.mvt_rows.specs.TileRows.{point_of as the_point_of};
@@ -37,8 +40,8 @@ impl Position for PointRow {
     }
 }
 
-/// Draws the geometry of a feature's row, and answers its type; `None` if there is one that no
-/// integers draw. The list then has its integers alone.
+/// Draws the geometry of a feature's row, and answers its type, or the first rule that it breaks if
+/// no integers draw it. The list then has its integers alone.
 ///
 /// Parts that can't be drawn are told only after all parts have counted.
 pub(crate) fn append_row_geometry(
@@ -46,7 +49,7 @@ pub(crate) fn append_row_geometry(
     row: &FeatureRow,
     work: &mut Work,
     integers: &mut PackedNumbers,
-) -> Result<Option<Kind>, RowPartError>
+) -> Result<Result<Kind, Undrawn>, RowPartError>
     ensures drawn { IfOk result
         (λ drawn. AreDrawnIf (geometry_of (table_of rows.now) row.now) drawn integers.new) }
     ensures none { IfErr result (IfNoPart (geometry_of (table_of rows.now) row.now ≡ None)) }
@@ -54,7 +57,7 @@ pub(crate) fn append_row_geometry(
     integers.clear();
     if row.kind == 0 {
         append_integers(integers, part(rows.integers, row.integers, work)?)?;
-        return Ok(Some(Kind::Unknown));
+        return Ok(Ok(Kind::Unknown));
     }
     let parts = part(rows.parts, row.parts, work)?;
     match row.kind {
@@ -71,7 +74,7 @@ fn draw_points(
     rows: &[PartRow],
     work: &mut Work,
     integers: &mut PackedNumbers,
-) -> Result<Option<Kind>, RowPartError>
+) -> Result<Result<Kind, Undrawn>, RowPartError>
     requires { integers.now ≡ [] }
     ensures drawn { IfOk result
         (λ drawn. AreDrawnIf (points_of points.now rows.now) drawn integers.new) }
@@ -80,9 +83,10 @@ fn draw_points(
     let [row] = rows else {
         return Err(RowPartError::NoPart);
     };
-    match append_points(integers, part(points, row.points, work)?) {
-        Ok(()) => Ok(Some(Kind::Point)),
-        Err(PartError::Invalid) => Ok(None),
+    let points = part(points, row.points, work)?;
+    match append_points(integers, points) {
+        Ok(()) => Ok(Ok(Kind::Point)),
+        Err(PartError::Invalid) => Ok(Err(refused_points(points))),
         Err(PartError::Memory) => Err(RowPartError::Memory),
     }
 }
@@ -92,39 +96,47 @@ fn draw_lines(
     rows: &[PartRow],
     work: &mut Work,
     integers: &mut PackedNumbers,
-) -> Result<Option<Kind>, RowPartError>
+) -> Result<Result<Kind, Undrawn>, RowPartError>
     requires { integers.now ≡ [] }
     ensures drawn { IfOk result (λ drawn. AreDrawnIf
         (option_map Lines (each (line_of points.now) rows.now)) drawn integers.new) }
     ensures none { IfErr result (IfNoPart (each (line_of points.now) rows.now ≡ None)) }
 {
-    let mut cursor = Some(ORIGIN);
-    for row in rows {
+    let mut cursor = Ok(ORIGIN);
+    for (index, row) in rows.iter().enumerate() {
         let line = part(points, row.points, work)?;
-        cursor = draw_line(integers, cursor, line)?;
+        cursor = draw_line(integers, index, cursor, line)?;
     }
-    if rows.is_empty() || cursor.is_none() {
-        return Ok(None);
+    if rows.is_empty() {
+        return Ok(Err(Undrawn::of_part(0, DrawingRule::EndsEarly)));
     }
-    Ok(Some(Kind::LineString))
+    match cursor {
+        Ok(_) => Ok(Ok(Kind::LineString)),
+        Err(undrawn) => Ok(Err(undrawn)),
+    }
 }
 
-/// Draws one line more. The cursor is `None` from where a line can't be drawn.
+/// Draws one line more, of this index. In place of a cursor there is the rule that a line broke,
+/// from where one can't be drawn.
 fn draw_line(
     integers: &mut PackedNumbers,
-    cursor: Option<Point>,
+    index: usize,
+    cursor: Result<Point, Undrawn>,
     line: &[PointRow],
-) -> Result<Option<Point>, AllocError>
-    ensures { (lines : List (List APoint)) → DrawnLines lines cursor integers.old
+) -> Result<Result<Point, Undrawn>, AllocError>
+    ensures drawn { (lines : List (List APoint)) → DrawnLines lines cursor integers.old
         → IfOk result (λ next. DrawnLines (lines ++ map point_of line.now ∷ []) next
         integers.new) }
+    ensures judged { (parts : List Stroke) → length parts ≡ index → AreJudged parts cursor
+        → IfOk result (AreJudged (parts ++ a_line (map point_of line.now) ∷ [])) }
 {
-    let Some(from) = cursor else {
-        return Ok(None);
+    let from = match cursor {
+        Ok(from) => from,
+        Err(undrawn) => return Ok(Err(undrawn)),
     };
     match append_line(integers, from, line) {
-        Ok(last) => Ok(Some(last)),
-        Err(PartError::Invalid) => Ok(None),
+        Ok(last) => Ok(Ok(last)),
+        Err(PartError::Invalid) => Ok(Err(refused_line(index, from, line))),
         Err(PartError::Memory) => Err(AllocError),
     }
 }
@@ -134,26 +146,29 @@ fn draw_polygons(
     rows: &[PartRow],
     work: &mut Work,
     integers: &mut PackedNumbers,
-) -> Result<Option<Kind>, RowPartError>
+) -> Result<Result<Kind, Undrawn>, RowPartError>
     requires { integers.now ≡ [] }
     ensures drawn { IfOk result (λ drawn. AreDrawnIf
         (option_map Polygons (steps (with_ring_row points.now) [] rows.now)) drawn integers.new) }
     ensures none { IfErr result (IfNoPart (steps (with_ring_row points.now) [] rows.now ≡ None)) }
 {
-    let mut cursor = Some(ORIGIN);
+    let mut cursor = Ok(ORIGIN);
     let mut begun = false;
-    for row in rows {
+    for (index, row) in rows.iter().enumerate() {
         let ring = part(points, row.points, work)?;
         let Some(role) = role_of(row, begun) else {
             return Err(RowPartError::NoPart);
         };
-        cursor = draw_ring(integers, cursor, ring, role)?;
+        cursor = draw_ring(integers, index, cursor, ring, role)?;
         begun = true;
     }
-    if !begun || cursor.is_none() {
-        return Ok(None);
+    if !begun {
+        return Ok(Err(Undrawn::of_part(0, DrawingRule::EndsEarly)));
     }
-    Ok(Some(Kind::Polygon))
+    match cursor {
+        Ok(_) => Ok(Ok(Kind::Polygon)),
+        Err(undrawn) => Ok(Err(undrawn)),
+    }
 }
 
 /// What the ring of a row is, where a polygon was begun before it or none.
@@ -168,24 +183,29 @@ fn role_of(row: &PartRow, begun: bool) -> Option<RingRole>
     }
 }
 
-/// Draws one ring more. The cursor is `None` from where a ring can't be drawn.
+/// Draws one ring more, of this index. In place of a cursor there is the rule that a ring broke,
+/// from where one can't be drawn.
 fn draw_ring(
     integers: &mut PackedNumbers,
-    cursor: Option<Point>,
+    index: usize,
+    cursor: Result<Point, Undrawn>,
     ring: &[PointRow],
     role: RingRole,
-) -> Result<Option<Point>, AllocError>
-    ensures { (polygons next : List Polygon)
+) -> Result<Result<Point, Undrawn>, AllocError>
+    ensures drawn { (polygons next : List Polygon)
         → IsFollowedBy role polygons (map point_of ring.now) next
         → DrawnPolygons polygons cursor integers.old
         → IfOk result (λ cursor. DrawnPolygons next cursor integers.new) }
+    ensures judged { (parts : List Stroke) → length parts ≡ index → AreJudged parts cursor
+        → IfOk result (AreJudged (parts ++ a_ring role (map point_of ring.now) ∷ [])) }
 {
-    let Some(from) = cursor else {
-        return Ok(None);
+    let from = match cursor {
+        Ok(from) => from,
+        Err(undrawn) => return Ok(Err(undrawn)),
     };
     match append_ring(integers, from, ring, role) {
-        Ok(last) => Ok(Some(last)),
-        Err(PartError::Invalid) => Ok(None),
+        Ok(last) => Ok(Ok(last)),
+        Err(PartError::Invalid) => Ok(Err(refused_ring(index, from, ring, role))),
         Err(PartError::Memory) => Err(AllocError),
     }
 }

@@ -163,8 +163,9 @@ fn write_feature(
     let values = writer.value_count();
     let FeatureLists { scratch, integers } = lists;
     let parts = feature_parts(alloc, rows, keys, values, row, work, integers)?;
-    let Some(kind) = parts.kind else {
-        return Err(RowError::Wrong(None, RowsCause::Drawing));
+    let kind = match parts.kind {
+        Ok(kind) => kind,
+        Err(undrawn) => return Err(RowError::Wrong(None, RowsCause::Drawing(undrawn))),
     };
     Ok(writer.add_drawn_feature(parts.id, parts.tags, kind, integers, scratch)?)
 }

@@ -42,6 +42,8 @@ pub mod cause {
     pub const REPEATED_NAME: u32 = 24;
     pub const TOO_LARGE: u32 = 25;
     pub const PARAMETER_RANGE: u32 = 26;
+    pub const EXTERIOR_RING: u32 = 27;
+    pub const INTERIOR_RING: u32 = 28;
 }
 
 pub const UNKNOWN: u32 = 0;
@@ -270,6 +272,10 @@ pub struct RowsFault {
     pub feature: u64,
     pub has_feature: u32,
     pub cause: u32,
+    pub rule: u32,
+    pub has_point: u32,
+    pub part: u64,
+    pub point: u64,
 }
 
 #[repr(C)]

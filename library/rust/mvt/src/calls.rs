@@ -273,6 +273,10 @@ const NO_ROWS_FAULT: sys::RowsFault = sys::RowsFault {
     feature: 0,
     has_feature: 0,
     cause: 0,
+    rule: 0,
+    has_point: 0,
+    part: 0,
+    point: 0,
 };
 
 /// What the status of a call means that takes rows.
@@ -282,6 +286,9 @@ fn error_of_rows(status: u32, fault: sys::RowsFault) -> Error {
             layer: fault.layer,
             feature: (fault.has_feature == 1).then_some(fault.feature),
             cause: fault.cause,
+            rule: (fault.rule != 0).then_some(fault.rule),
+            part: (fault.rule != 0).then_some(fault.part),
+            point: (fault.has_point == 1).then_some(fault.point),
         });
     }
     // SAFETY: the status isn't that of a fault.

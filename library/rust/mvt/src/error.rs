@@ -64,6 +64,12 @@ pub struct RowsFault {
     pub feature: Option<u64>,
     /// The cause's number, one of [`rows_cause`](crate::rows_cause).
     pub cause: u32,
+    /// The first rule that a geometry breaks which no commands draw, one of [`cause`](crate::cause); `None` for other causes.
+    pub rule: Option<u32>,
+    /// The index of the line or ring in its feature that breaks the rule; 0 for points.
+    pub part: Option<u64>,
+    /// The index of the point in its part; `None` if the part as a whole breaks the rule.
+    pub point: Option<u64>,
 }
 
 impl Error {
@@ -111,13 +117,24 @@ impl std::error::Error for RowsFault {}
 impl fmt::Display for RowsFault {
     fn fmt(&self, f: &mut fmt::Formatter<'_>) -> fmt::Result {
         write!(f, "layer {}", self.layer)?;
-        if let Some(feature) = self.feature {
-            write!(f, " feature {feature}")?;
+        let places = [
+            ("feature", self.feature),
+            ("part", self.part),
+            ("point", self.point),
+        ];
+        for (name, index) in places {
+            if let Some(index) = index {
+                write!(f, " {name} {index}")?;
+            }
         }
         // SAFETY: the texts of causes last for good.
-        write!(f, ": {}", unsafe {
-            words(sys::mvt_rows_cause_text(self.cause))
-        })
+        let why = unsafe {
+            match self.rule {
+                Some(rule) => words(sys::mvt_cause_text(rule)),
+                None => words(sys::mvt_rows_cause_text(self.cause)),
+            }
+        };
+        write!(f, ": {why}")
     }
 }
 

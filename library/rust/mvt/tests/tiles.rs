@@ -403,14 +403,40 @@ fn what_goes_wrong_is_told() {
     let told = builder.finish().unwrap_err();
     match told {
         Error::NoTile(fault) => {
-            assert_eq!((fault.layer, fault.feature, fault.cause), (0, Some(0), 17))
+            assert_eq!((fault.layer, fault.feature, fault.cause), (0, Some(0), 17));
+            assert_eq!(fault.rule, Some(mvt::cause::COUNT));
+            assert_eq!((fault.part, fault.point), (Some(0), None));
         }
         ref other => panic!("{other}"),
     }
     assert!(
-        told.to_string().starts_with("layer 0 feature 0: "),
+        told.to_string()
+            .starts_with("layer 0 feature 0 part 0: The command has a count"),
         "{told}"
     );
+    builder.layer("a", 4096).feature(Kind::Lines);
+    builder.line().point(1, 1).point(2, 2).point(2, 2);
+    let told = builder.finish().unwrap_err();
+    match told {
+        Error::NoTile(fault) => {
+            assert_eq!(fault.rule, Some(mvt::cause::ZERO_SEGMENT));
+            assert_eq!((fault.part, fault.point), (Some(0), Some(2)));
+        }
+        ref other => panic!("{other}"),
+    }
+    let said = told.to_string();
+    let place = "layer 0 feature 0 part 0 point 2: ";
+    assert!(
+        said.starts_with(place) && said.contains("A line goes nowhere"),
+        "{said}"
+    );
+    builder.layer("a", 1).layer("a", 1);
+    match builder.finish() {
+        Err(Error::NoTile(fault)) => {
+            assert_eq!((fault.rule, fault.part, fault.point), (None, None, None))
+        }
+        other => panic!("{other:?}"),
+    }
     builder.point(1, 1);
     assert_eq!(builder.finish(), Err(Error::OutOfTurn));
     assert_eq!(builder.layer("a", 1).key("k"), Ok(0));

@@ -1,8 +1,8 @@
-use Rattle.std.proofs.Common.{◌≡◌, ◌++◌, ◌∷◌, ◌==◌, [], Some, None, get_or, ap, sym, subst, refl, ◌∙◌, append_assoc}
+use Rattle.std.proofs.Common.{◌≡◌, ◌++◌, ◌∷◌, ◌==◌, [], None, get_or, ap, sym, subst, refl, ◌∙◌, append_assoc}
 use Rattle.std.specs.Prelude.{not, List}
 use Rattle.std.specs.Option.{option_map}
 use Rattle.mvt_rows.specs.Building.{Holds}
-use Rattle.mvt_rows.specs.Told.{ToldFeature, ToldPart, InFeature, new_part, told_part, with_part, with_parts}
+use Rattle.mvt_rows.specs.Told.{ToldFeature, ToldPart, InFeature, new_part, told_part, with_parts}
 use Rattle.mvt_rows.specs.declared.rows.PartRow.{PartRow}
 use Rattle.mvt_rows.proofs.EachLemmas.{each_more, each_stops}
 use Rattle.mvt_rows.proofs.BuildingLemmas.{some_not_none}
