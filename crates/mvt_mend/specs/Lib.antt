@@ -1,0 +1,5 @@
+pub mod Signs
+pub mod Repeats
+pub mod Turning
+pub mod Nesting
+pub mod Mending
