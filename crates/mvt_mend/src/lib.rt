@@ -2,10 +2,14 @@
 //! ring of negative area (Mapbox Vector Tile Specification 2.1, sections 4.3.3.2 and 4.3.4.4).
 #![tactic(auto)]
 
+mod drawing;
+mod geometry;
 mod mending;
 mod nesting;
+mod reading;
 mod repeats;
 mod signs;
 mod turning;
 
+pub use geometry::mend_geometry;
 pub use mending::{mend_lines, mend_rings};
