@@ -1,3 +1,6 @@
+pub mod MendLaws
 mod ReadingLemmas
 mod DrawingLemmas
 mod GeometryLemmas
+mod OnceLemmas
+mod OriginLemmas

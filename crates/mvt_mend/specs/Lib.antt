@@ -6,3 +6,4 @@ pub mod Mending
 pub mod Reading
 pub mod Drawing
 pub mod Geometry
+pub mod Origins

@@ -4,6 +4,7 @@
 
 mod drawing;
 mod geometry;
+pub mod laws;
 mod mending;
 mod nesting;
 mod reading;
