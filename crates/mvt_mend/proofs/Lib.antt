@@ -4,3 +4,5 @@ mod DrawingLemmas
 mod GeometryLemmas
 mod OnceLemmas
 mod OriginLemmas
+mod SpellingLemmas
+mod MendedLemmas

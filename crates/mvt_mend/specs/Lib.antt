@@ -7,3 +7,4 @@ pub mod Reading
 pub mod Drawing
 pub mod Geometry
 pub mod Origins
+pub mod Spelling

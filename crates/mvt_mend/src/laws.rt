@@ -8,6 +8,7 @@ ghost use Rattle.mvt_geometry.specs.Table.{geometry_fault};
 ghost use Rattle.mvt_mend.specs.Geometry.{mended_geometry};
 ghost use Rattle.mvt_mend.specs.Mending.{mended_lines, mended_rings};
 ghost use Rattle.mvt_mend.specs.Origins.{ComeFrom};
+ghost use Rattle.mvt_mend.specs.Spelling.{has_rings, IsMendedTo};
 
 /// Integers that draw a geometry stay.
 pub fn drawn_stays()
@@ -38,4 +39,10 @@ pub fn lines_come_from_lines()
 pub fn rings_come_from_rings()
     ensures { (steps : ℕ) (rings mended : List (List Point))
         → mended_rings steps rings ≡ Some mended → ComeFrom rings mended }
+{}
+
+/// What stands in place of integers spells lines or rings that come from those that they spell.
+pub fn mended_comes_from_spelled()
+    ensures { (kind : Kind) (ints new : List ℕ) → mended_geometry kind ints ≡ Some new
+        → IsMendedTo (has_rings kind) ints new }
 {}

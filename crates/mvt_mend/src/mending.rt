@@ -10,7 +10,8 @@ use mvt_base::Items;
 use mvt_geometry::Point;
 use std::alloc::{AllocError, Global};
 
-/// Lines without repeated points, and without those that are too short then.
+/// Lines without repeated points, and without those that have fewer than two points then (4.3.3.2,
+/// 4.3.4.3).
 ///
 /// # Errors
 ///
@@ -21,9 +22,11 @@ pub fn mend_lines(alloc: Global, lines: &[Items<Point>]) -> Result<Items<Items<P
     Ok(Items::new(long_lines(alloc, lines)?))
 }
 
-/// Rings without repeated points, and without those that are too short then. Where the first has
-/// negative area then, it is turned and the others are told by nesting: None where that takes more
-/// than so many steps.
+/// Rings without repeated points, and without those that are too short then (4.3.3.2, 4.3.4.4).
+///
+/// Where the first has negative area then, it is turned, and the others are told by nesting: a ring
+/// that lies in the last exterior one is interior, any other one exterior. A step asks for one point
+/// of a ring and one edge of an exterior one. None where more steps are needed than are given.
 ///
 /// # Errors
 ///
