@@ -7,6 +7,8 @@ mod expect;
 #[cfg(test)]
 mod geometries;
 #[cfg(test)]
+mod refused;
+#[cfg(test)]
 mod rings;
 #[cfg(test)]
 mod support;
