@@ -1,0 +1,8 @@
+pub mod MendLaws
+mod ReadingLemmas
+mod DrawingLemmas
+mod GeometryLemmas
+mod OnceLemmas
+mod OriginLemmas
+mod SpellingLemmas
+mod MendedLemmas

@@ -1,0 +1,48 @@
+//! Laws about the definitions alone: functions without effect, whose contract is the law.
+ghost use Rattle.std.specs.Prelude.{◌≡◌, ℕ, List, ◌∷◌, None, Some};
+ghost use Rattle.mvt_geometry.specs.declared.shape.Geometry.{Geometry};
+ghost use Rattle.mvt_geometry.specs.declared.shape.Kind.{Kind};
+ghost use Rattle.mvt_geometry.specs.declared.shape.Point.{Point};
+ghost use Rattle.mvt_geometry.specs.Drawing.{Draws};
+ghost use Rattle.mvt_geometry.specs.Table.{geometry_fault};
+ghost use Rattle.mvt_mend.specs.Geometry.{mended_geometry};
+ghost use Rattle.mvt_mend.specs.Mending.{mended_lines, mended_rings};
+ghost use Rattle.mvt_mend.specs.Origins.{ComeFrom};
+ghost use Rattle.mvt_mend.specs.Spelling.{has_rings, IsMendedTo};
+
+/// Integers that draw a geometry stay.
+pub fn drawn_stays()
+    ensures { (kind : Kind) (ints : List ℕ) (g : Geometry) → Draws kind ints g
+        → mended_geometry kind ints ≡ None }
+{}
+
+/// What stands in place of integers breaks no rule, or is none at all.
+pub fn mended_is_faultless()
+    ensures { (kind : Kind) (ints : List ℕ) (n : ℕ) (new : List ℕ)
+        → mended_geometry kind ints ≡ Some (n ∷ new) → geometry_fault kind (n ∷ new) ≡ None }
+{}
+
+/// Mending twice is mending once: what stands in place of integers stays.
+pub fn mended_once()
+    ensures { (kind : Kind) (ints new : List ℕ) → mended_geometry kind ints ≡ Some new
+        → mended_geometry kind new ≡ None }
+{}
+
+/// Each line that remains has the points of a line of its own without the repeated ones, and the
+/// lines remain in their order.
+pub fn lines_come_from_lines()
+    ensures { (lines : List (List Point)) → ComeFrom lines (mended_lines lines) }
+{}
+
+/// Each ring that remains has the points of a ring of its own without the repeated ones, in its
+/// direction or in the other, and the rings remain in their order.
+pub fn rings_come_from_rings()
+    ensures { (steps : ℕ) (rings mended : List (List Point))
+        → mended_rings steps rings ≡ Some mended → ComeFrom rings mended }
+{}
+
+/// What stands in place of integers spells lines or rings that come from those that they spell.
+pub fn mended_comes_from_spelled()
+    ensures { (kind : Kind) (ints new : List ℕ) → mended_geometry kind ints ≡ Some new
+        → IsMendedTo (has_rings kind) ints new }
+{}

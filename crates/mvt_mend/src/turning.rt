@@ -1,0 +1,64 @@
+//! Rings told in the other direction (section 4.3.4.4).
+ghost use Rattle.std.specs.Prelude.{◌≡◌, reverse, IfOk};
+ghost use Rattle.mvt_mend.specs.Turning.{past, turned as the_turned, as_exterior as the_exterior, as_interior as the_interior};
+
+use crate::repeats::is_same;
+use crate::signs::{is_negative, is_positive};
+use mvt_base::Items;
+use mvt_geometry::Point;
+use std::alloc::{AllocError, Global};
+
+/// A ring in the other direction, from the same first point, without last points that equal it.
+pub(crate) fn turned(alloc: Global, ring: &[Point]) -> Result<Items<Point>, AllocError>
+    ensures { IfOk result (λ r. r ≡ the_turned ring.now) }
+{
+    let [first, others @ ..] = ring else {
+        return copied(alloc, ring);
+    };
+    let open = opened(*first, others);
+    let mut points: Vec<Point> = open.iter().rev().copied().collect(alloc)?;
+    points.insert(0, *first)?;
+    Ok(Items::new(points))
+}
+
+/// The points without those at the end that are at one place with the first.
+fn opened(first: Point, points: &[Point]) -> &[Point]
+    ensures { reverse result.now ≡ past first (reverse points.now) }
+{
+    let mut open = points;
+    while !open.is_empty() {
+        let end = open.len() - 1;
+        if !is_same(first, open[end]) {
+            break;
+        }
+        open = &open[..end];
+    }
+    open
+}
+
+/// A ring as an exterior one: turned if its area is negative.
+pub(crate) fn as_exterior(alloc: Global, ring: &[Point]) -> Result<Items<Point>, AllocError>
+    ensures { IfOk result (λ r. r ≡ the_exterior ring.now) }
+{
+    if is_negative(ring) {
+        return turned(alloc, ring);
+    }
+    copied(alloc, ring)
+}
+
+/// A ring as an interior one: turned if its area is positive.
+pub(crate) fn as_interior(alloc: Global, ring: &[Point]) -> Result<Items<Point>, AllocError>
+    ensures { IfOk result (λ r. r ≡ the_interior ring.now) }
+{
+    if is_positive(ring) {
+        return turned(alloc, ring);
+    }
+    copied(alloc, ring)
+}
+
+pub(crate) fn copied(alloc: Global, ring: &[Point]) -> Result<Items<Point>, AllocError>
+    ensures { IfOk result (λ r. r ≡ ring.now) }
+{
+    let points = Vec::from_slice(alloc, ring)?;
+    Ok(Items::new(points))
+}
