@@ -26,6 +26,8 @@ class Around(unittest.TestCase):
         self.assertEqual(told.steps[fault.at], Step(Role.CLOSE_PATH, 0, 3, 6))
         self.assertEqual(told.paths(fault.at), [Drawn([(20, 34), (8, 12), (3, 6)], False, [3, 6, 8])])
         self.assertEqual(told.paths()[0].is_closed, True)
+        self.assertEqual(told.paths(6, 2), [Drawn([(20, 34), (8, 12)], False, [3, 6])])
+        self.assertEqual((told.roles[:3], len(told.roles)), (bytes([1, 3, 4]), 9))
         self.assertEqual(told.fields[0], Field(3, 0, Bounds(9, 10, 11)))
 
     def test_tags(self):

@@ -76,10 +76,10 @@ class _Rows(Sequence[_Row]):
     """Rows of the library as a list that makes each when it is asked for."""
 
     def __init__(self, form: Struct, make: Callable[..., _Row], rows: bytes) -> None:
-        self._form, self._make, self._rows = form, make, rows
+        self.form, self._make, self.rows = form, make, rows
 
     def __len__(self) -> int:
-        return len(self._rows) // self._form.size
+        return len(self.rows) // self.form.size
 
     @overload
     def __getitem__(self, index: int) -> _Row: ...
@@ -90,10 +90,10 @@ class _Rows(Sequence[_Row]):
         return [self._at(place) for place in places] if isinstance(places, range) else self._at(places)
 
     def _at(self, place: int) -> _Row:
-        return self._make(*self._form.unpack_from(self._rows, place * self._form.size))
+        return self._make(*self.form.unpack_from(self.rows, place * self.form.size))
 
     def __iter__(self) -> Iterator[_Row]:
-        return (self._make(*row) for row in self._form.iter_unpack(self._rows))
+        return (self._make(*row) for row in self.form.iter_unpack(self.rows))
 
     def __repr__(self) -> str:
         return f"<{len(self)} rows>"
@@ -118,14 +118,21 @@ class Around:
     keys: Sequence[Bounds]
     tags: Sequence[Integer]
     geometry: Sequence[Integer]
-    steps: Sequence[Step]
+    steps: _Rows[Step]
     fields: Sequence[Field]
 
-    def paths(self, end: Optional[int] = None) -> List[Path]:
-        """The points that the integers of the geometry draw, or those before an index, and the parts that they form."""
+    @property
+    def roles(self) -> bytes:
+        """The role of each integer of the geometry, a byte each."""
+        return bytes(self.steps.rows[:: self.steps.form.size])
+
+    def paths(self, end: Optional[int] = None, start: int = 0) -> List[Path]:
+        """The points that the integers of the geometry draw, or those before an index and from another on, and the parts
+        that they form."""
         found: List[Path] = []
-        for index, (role, _, x, y) in enumerate(self.steps):
-            if index == end or role == Role.NOTHING:
+        steps = self.steps if end is None and start == 0 else self.steps[start:end]
+        for index, (role, _, x, y) in enumerate(steps, start):
+            if role == Role.NOTHING:
                 break
             if role == Role.CLOSE_PATH and found:
                 found[-1] = found[-1]._replace(is_closed=True)

@@ -9,6 +9,8 @@ from mvt._around import Around, Integer, Role, Step
 _AROUND = 4
 # So many points are drawn at most: the last ones before the fault.
 _DRAWN = 20_000
+# So many integers are looked at for each of them.
+_LOOKED = 8
 _EXTENT = 4096
 _X = (Role.MOVE_X, Role.LINE_X)
 
@@ -65,10 +67,14 @@ def _shape(at: int, around: Around) -> Optional[Dict[str, Any]]:
     if around.feature is None:
         return None
     is_inside = around.list == "geometry"
-    paths = around.paths(at if is_inside else None)
-    count = sum(len(path.points) for path in paths)
+    roles = around.roles
+    end = min(at, len(roles)) if is_inside else len(roles)
+    nothing = roles.find(Role.NOTHING, 0, end)
+    end = end if nothing < 0 else nothing
+    count = roles.count(Role.MOVE_Y, 0, end) + roles.count(Role.LINE_Y, 0, end)
     if count == 0 and not is_inside:
         return None
+    paths = around.paths(end, max(0, end - _LOOKED * _DRAWN))
     mark = paths[-1].points[-1] if paths else (0, 0)
     return {
         "kind": around.kind or 0,

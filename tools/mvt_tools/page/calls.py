@@ -13,6 +13,7 @@ is the number of layers, that of features, and 1 if the bytes are canonical, of 
 
 import json
 import struct
+from contextlib import suppress
 from functools import partial
 from typing import Any, Callable, Dict, List, Optional, Tuple
 
@@ -45,11 +46,14 @@ def _explain(body: bytearray) -> Answer:
 
 
 def _around(body: bytearray) -> Answer:
-    """What there is round the fault of a tile that is refused, as JSON; of an accepted one null."""
+    """What there is round the fault of a tile that is refused, as JSON: nothing where there is no memory for it, or no fault."""
     tile = bytes(body)
     status, made = answer("judge", tile)
-    told = around_told(tile, made) if status == REFUSED else None
-    return _spelled(NO_MEMORY, None) if status == NO_MEMORY else _spelled(OK, json.dumps(told, separators=(",", ":")).encode())
+    told = {"integers": None, "shape": None}
+    if status == REFUSED:
+        with suppress(MemoryError):
+            told = around_told(tile, made)
+    return _spelled(OK, json.dumps(told, separators=(",", ":")).encode())
 
 
 def _made(call: str, body: bytearray) -> Answer:
