@@ -470,7 +470,7 @@ typedef enum {
 } mvt_lookalike;
 
 /* What refused bytes look like, an mvt_lookalike, or 0 if they may be meant as a tile. Pass all of them, or at least the first
- * 65,536. Of an accepted tile it says nothing. */
+ * 65,536. Don't ask of an accepted tile, which may begin as something else does. */
 int mvt_looks_like(const uint8_t *bytes, size_t len);
 
 /* A fault in a sentence or two. Pass the refused bytes, or the first few of them: if they look like gzip, zlib, zstd, PNG,

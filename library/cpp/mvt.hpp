@@ -561,7 +561,7 @@ inline void judge(input of) {
     require_ok(mvt_judge(of.data(), of.size(), &fault), fault, of);
 }
 
-/// What refused bytes look like, if they don't seem meant as a tile. Of an accepted tile it says nothing.
+/// What refused bytes look like, if they don't seem meant as a tile. An accepted tile may begin as something else does.
 [[nodiscard]] inline std::optional<mvt_lookalike> looks_like(input of) noexcept {
     const int kind = mvt_looks_like(of.data(), of.size());
     if (kind == 0) return std::nullopt;

@@ -57,8 +57,8 @@ type Lookalike uint32
 
 func (l Lookalike) String() string { return nameOf(lookalikeNames[l], uint32(l)) }
 
-// LooksLike says what refused bytes look like, and false if they may be meant as a tile. Of an accepted tile it says
-// nothing.
+// LooksLike says what refused bytes look like, and false if they may be meant as a tile. An accepted tile may begin as
+// something else does.
 func LooksLike(tile []byte) (Lookalike, bool) {
 	kind := C.mvt_looks_like(start(tile), C.size_t(len(tile)))
 	return Lookalike(kind), kind != 0

@@ -9,7 +9,7 @@ import unittest
 from pathlib import Path
 
 import mvt
-from mvt._mvt import lint_rows, looked_at, survey_rows
+from mvt._mvt import lint_rows, lookalike, looked_at, survey_rows
 
 TILES = Path(__file__).resolve().parents[2] / "fixtures" / "tiles"
 TILE = (TILES / "gdal.mvt").read_bytes()
@@ -70,7 +70,7 @@ GOOD = (
     lambda: looked_at(TILE),
     lambda: looked_at(FOUND),
     lambda: looked_at(BROKEN),
-    lambda: mvt.looks_like(bytearray(b"GIF89a")),
+    lambda: lookalike(bytearray(b"GIF89a")),
     lambda: mvt.rewrite(TILE),
     lambda: mvt.to_json(TILE),
     lambda: mvt.to_svg(TILE),
@@ -82,7 +82,7 @@ BAD = (
     lambda: mvt.read(BROKEN),
     lambda: mvt.judge(BROKEN),
     lambda: mvt.read("tile"),
-    lambda: mvt.looks_like("tile"),
+    lambda: lookalike("tile"),
     lambda: mvt.read(TILE, most=10),
     lambda: mvt.extract(TILE, ["water", "nowhere"]),
     lambda: mvt.read_layer(TILE, "nowhere"),

@@ -31,7 +31,7 @@ LOOKS = {
     b"GIF89a": "it looks like a GIF picture",
     b"RIFF\0\0\0\0WEBP": "it looks like a WebP picture",
     b"fgb\x03": "it looks like FlatGeobuf",
-    b"\xfd7zXZ\0": "it looks like xz: xz -dc {} | mvt check",
+    b"\xfd7zXZ\0\0\4": "it looks like xz: xz -dc {} | mvt check",
     b"BZh9": "it looks like bzip2: bzip2 -dc {} | mvt check",
     b"PK\x03\x04": "it looks like a ZIP archive: unzip -p {} NAME | mvt check",
     b"%PDF-1.7": "it looks like a PDF document",

@@ -149,7 +149,7 @@ def looks_like(tile: _Buffer) -> Optional[str]:
     """What refused bytes look like, such as "Gzip", "Jpeg" or "PlainText" (the names of `mvt_lookalike` in mvt.h); None if
     they may be meant as a tile.
 
-    Of an accepted tile it says nothing. `Refused` has it in words.
+    An accepted tile may begin as something else does. `Refused` has the kind in words.
     """
     return LOOKALIKES.get(lookalike(tile))
 

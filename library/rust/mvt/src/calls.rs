@@ -74,7 +74,7 @@ pub fn judge(bytes: &[u8]) -> Result<(), Error> {
 }
 
 /// What refused bytes look like, a number of [`lookalike`](crate::lookalike); `None` if they may be
-/// meant as a tile. Of an accepted tile it says nothing.
+/// meant as a tile. An accepted tile may begin as something else does.
 ///
 /// ```
 /// assert_eq!(mvt::looks_like(b"GIF89a"), Some(mvt::lookalike::GIF));
