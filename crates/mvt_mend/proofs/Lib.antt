@@ -6,3 +6,4 @@ mod OnceLemmas
 mod OriginLemmas
 mod SpellingLemmas
 mod MendedLemmas
+mod ReadLemmas
