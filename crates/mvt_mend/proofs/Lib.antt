@@ -7,3 +7,4 @@ mod OriginLemmas
 mod SpellingLemmas
 mod MendedLemmas
 mod ReadLemmas
+mod SmallLemmas

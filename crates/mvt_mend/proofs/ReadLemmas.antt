@@ -24,7 +24,7 @@ inside z range =
     let low : negsuc 2147483646 ≤ℤ z = range.low in
     let high : z ≤ℤ pos 2147483647 = range.high in grind (arith, ints)
 
-not_true : (b : Bool) → not b ≡ true → b ≡ false
+pub not_true : (b : Bool) → not b ≡ true → b ≡ false
 not_true true h = absurd (cc)
 not_true false h = refl
 

@@ -7,7 +7,7 @@ use Rattle.mvt_geometry.specs.Shape.{IsPlace, origin}
 use Rattle.std.specs.List.{AllByRecursion}
 use Rattle.mvt_geometry.specs.Drawing.{strokes}
 use Rattle.mvt_mend.specs.Reading.{least_of}
-use Rattle.mvt_mend.specs.Drawing.{closing}
+use Rattle.mvt_mend.specs.Drawing.{closing, can_draw_all}
 use Rattle.mvt_mend.specs.Geometry.{mended_parts}
 use Rattle.mvt_mend.specs.Origins.{ComeFrom}
 
@@ -23,6 +23,7 @@ pub record IsMendedTo (ring : Bool) (ints new : List ℕ) : Type 0 where
   pub spelled : ints ≡ strokes (closing ring) origin parts
   pub mends : mended_parts ring (length ints) parts ≡ Some mended
   pub comes : ComeFrom parts mended
+  pub drawable : can_draw_all origin mended ≡ true
   pub draws : new ≡ strokes (closing ring) origin mended
 
 -- a line or ring of positions in range, with as many points as its commands need, whatever points it repeats

@@ -26,6 +26,12 @@ pub fn mended_is_faultless()
         → mended_geometry kind ints ≡ Some (n ∷ new) → geometry_fault kind (n ∷ new) ≡ None }
 {}
 
+/// What stands in place of integers draws a geometry, or is none at all.
+pub fn mended_draws()
+    ensures { (kind : Kind) (ints : List ℕ) (n : ℕ) (new : List ℕ)
+        → mended_geometry kind ints ≡ Some (n ∷ new) → (g : Geometry) × Draws kind (n ∷ new) g }
+{}
+
 /// Mending twice is mending once: what stands in place of integers stays.
 pub fn mended_once()
     ensures { (kind : Kind) (ints new : List ℕ) → mended_geometry kind ints ≡ Some new
