@@ -8,3 +8,4 @@ mod SpellingLemmas
 mod MendedLemmas
 mod ReadLemmas
 mod SmallLemmas
+mod TurningLemmas

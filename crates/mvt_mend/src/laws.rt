@@ -1,9 +1,10 @@
 //! Laws about the definitions alone: functions without effect, whose contract is the law.
-ghost use Rattle.std.specs.Prelude.{◌≡◌, ◌<◌, ℕ, Bool, true, List, ◌∷◌, length, None, Some};
+ghost use Rattle.std.specs.Prelude.{◌≡◌, ◌<◌, ℕ, Bool, true, List, ◌∷◌, length, None, Some, neg_ℤ};
 ghost use Rattle.std.specs.List.{AllByRecursion};
 ghost use Rattle.mvt_geometry.specs.declared.shape.Geometry.{Geometry};
 ghost use Rattle.mvt_geometry.specs.declared.shape.Kind.{Kind};
 ghost use Rattle.mvt_geometry.specs.declared.shape.Point.{Point};
+ghost use Rattle.mvt_geometry.specs.Area.{area2};
 ghost use Rattle.mvt_geometry.specs.Drawing.{Draws, strokes};
 ghost use Rattle.mvt_geometry.specs.Shape.{origin};
 ghost use Rattle.mvt_geometry.specs.Table.{geometry_fault};
@@ -13,6 +14,7 @@ ghost use Rattle.mvt_mend.specs.Mending.{mended_lines, mended_rings};
 ghost use Rattle.mvt_mend.specs.Origins.{ComeFrom};
 ghost use Rattle.mvt_mend.specs.Reading.{parts_in};
 ghost use Rattle.mvt_mend.specs.Spelling.{has_rings, HasForm, IsMendedTo};
+ghost use Rattle.mvt_mend.specs.Turning.{turned};
 
 /// Integers that draw a geometry stay.
 pub fn drawn_stays()
@@ -62,4 +64,9 @@ pub fn spelled_is_read()
     ensures { (ring : Bool) (parts : List (List Point)) → 0 < length parts
         → can_draw_all origin parts ≡ true → AllByRecursion (HasForm ring) parts
         → parts_in ring (strokes (closing ring) origin parts) ≡ Some parts }
+{}
+
+/// A ring told in the other direction has the opposite area.
+pub fn turned_area()
+    ensures { (ring : List Point) → area2 (turned ring) ≡ neg_ℤ (area2 ring) }
 {}
