@@ -6,3 +6,6 @@ mod OnceLemmas
 mod OriginLemmas
 mod SpellingLemmas
 mod MendedLemmas
+mod ReadLemmas
+mod SmallLemmas
+mod TurningLemmas

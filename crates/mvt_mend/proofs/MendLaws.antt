@@ -2,3 +2,6 @@
 pub use Rattle.mvt_mend.proofs.OnceLemmas.{drawn_stays, mended_is_faultless, mended_once}
 pub use Rattle.mvt_mend.proofs.OriginLemmas.{lines_come_from_lines, rings_come_from_rings}
 pub use Rattle.mvt_mend.proofs.MendedLemmas.{mended_comes_from_spelled}
+pub use Rattle.mvt_mend.proofs.ReadLemmas.{spelled_is_read}
+pub use Rattle.mvt_mend.proofs.SmallLemmas.{mended_draws}
+pub use Rattle.mvt_mend.proofs.TurningLemmas.{turned_area}

@@ -43,6 +43,7 @@ as_mended kind ring ints new h =
       spelled = read_parts_spelled ring ints read.0 read.1;
       mends = mended.1;
       comes = parts_come ring (length ints) read.0 mended.0 mended.1;
+      drawable = spelled.0;
       draws = sym (is ∙ same_if_drawn kind drawn.0 new drawn.2);
     }
 

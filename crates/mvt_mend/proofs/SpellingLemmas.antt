@@ -80,7 +80,7 @@ path_spelled before c (dx ∷ dy ∷ ps) path h =
       last = rest.last;
     }
 
-length_path : (c : Point) (points : List Point) → length (path_from c points) ≡ 2 * length points
+pub length_path : (c : Point) (points : List Point) → length (path_from c points) ≡ 2 * length points
 length_path c [] = refl
 length_path c (p ∷ points) = omega (arith, length_path p points)
 
@@ -120,7 +120,7 @@ spelled_from ring c a b d e tail first path rest is_move is_line room begun goes
       last = is.last ∙ sym (ap (λ ps. last_of c ps) is.points);
     }
 
-and_true : (p q : Bool) → (p && q) ≡ true → (p ≡ true) × (q ≡ true)
+pub and_true : (p q : Bool) → (p && q) ≡ true → (p ≡ true) × (q ≡ true)
 and_true true q h = (refl, h)
 and_true false q h = absurd (cc)
 

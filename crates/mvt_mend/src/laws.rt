@@ -1,14 +1,20 @@
 //! Laws about the definitions alone: functions without effect, whose contract is the law.
-ghost use Rattle.std.specs.Prelude.{◌≡◌, ℕ, List, ◌∷◌, None, Some};
+ghost use Rattle.std.specs.Prelude.{◌≡◌, ◌<◌, ℕ, Bool, true, List, ◌∷◌, length, None, Some, neg_ℤ};
+ghost use Rattle.std.specs.List.{AllByRecursion};
 ghost use Rattle.mvt_geometry.specs.declared.shape.Geometry.{Geometry};
 ghost use Rattle.mvt_geometry.specs.declared.shape.Kind.{Kind};
 ghost use Rattle.mvt_geometry.specs.declared.shape.Point.{Point};
-ghost use Rattle.mvt_geometry.specs.Drawing.{Draws};
+ghost use Rattle.mvt_geometry.specs.Area.{area2};
+ghost use Rattle.mvt_geometry.specs.Drawing.{Draws, strokes};
+ghost use Rattle.mvt_geometry.specs.Shape.{origin};
 ghost use Rattle.mvt_geometry.specs.Table.{geometry_fault};
+ghost use Rattle.mvt_mend.specs.Drawing.{can_draw_all, closing};
 ghost use Rattle.mvt_mend.specs.Geometry.{mended_geometry};
 ghost use Rattle.mvt_mend.specs.Mending.{mended_lines, mended_rings};
 ghost use Rattle.mvt_mend.specs.Origins.{ComeFrom};
-ghost use Rattle.mvt_mend.specs.Spelling.{has_rings, IsMendedTo};
+ghost use Rattle.mvt_mend.specs.Reading.{parts_in};
+ghost use Rattle.mvt_mend.specs.Spelling.{has_rings, HasForm, IsMendedTo};
+ghost use Rattle.mvt_mend.specs.Turning.{turned};
 
 /// Integers that draw a geometry stay.
 pub fn drawn_stays()
@@ -20,6 +26,12 @@ pub fn drawn_stays()
 pub fn mended_is_faultless()
     ensures { (kind : Kind) (ints : List ℕ) (n : ℕ) (new : List ℕ)
         → mended_geometry kind ints ≡ Some (n ∷ new) → geometry_fault kind (n ∷ new) ≡ None }
+{}
+
+/// What stands in place of integers draws a geometry, or is none at all.
+pub fn mended_draws()
+    ensures { (kind : Kind) (ints : List ℕ) (n : ℕ) (new : List ℕ)
+        → mended_geometry kind ints ≡ Some (n ∷ new) → (g : Geometry) × Draws kind (n ∷ new) g }
 {}
 
 /// Mending twice is mending once: what stands in place of integers stays.
@@ -45,4 +57,16 @@ pub fn rings_come_from_rings()
 pub fn mended_comes_from_spelled()
     ensures { (kind : Kind) (ints new : List ℕ) → mended_geometry kind ints ≡ Some new
         → IsMendedTo (has_rings kind) ints new }
+{}
+
+/// Integers that spell lines or rings, whatever points these repeat, are read as just these.
+pub fn spelled_is_read()
+    ensures { (ring : Bool) (parts : List (List Point)) → 0 < length parts
+        → can_draw_all origin parts ≡ true → AllByRecursion (HasForm ring) parts
+        → parts_in ring (strokes (closing ring) origin parts) ≡ Some parts }
+{}
+
+/// A ring told in the other direction has the opposite area.
+pub fn turned_area()
+    ensures { (ring : List Point) → area2 (turned ring) ≡ neg_ℤ (area2 ring) }
 {}
