@@ -101,8 +101,72 @@ fn tells_what_is_no_tile(rt: HostRuntime) {
     expect_eq!(rt; looks_like(b"\x1F\x8B\x08"), Some(Lookalike::Gzip));
     expect_eq!(rt; looks_like(b"\x78\x9C"), Some(Lookalike::Zlib));
     expect_eq!(rt; looks_like(TWO_PIECES), None);
+    expect_eq!(rt; looks_like(b"\x1A\x03\x0A\x09ax\x02"), None);
     let text = "This isn't a tile, but looks like JSON.";
     expect!(rt; sentence(b"{}", Cause::WireType) == text);
+}
+
+#[test]
+fn tells_marks(rt: HostRuntime) {
+    expect_eq!(rt; looks_like(b"\x89PNG\r\n\x1A\n"), Some(Lookalike::Png));
+    expect_eq!(rt; looks_like(b"\xFF\xD8\xFF\xE0"), Some(Lookalike::Jpeg));
+    expect_eq!(rt; looks_like(b"GIF89a"), Some(Lookalike::Gif));
+    expect_eq!(rt; looks_like(b"RIFF\0\0\0\0WEBPVP8 "), Some(Lookalike::Webp));
+    expect_eq!(rt; looks_like(b"RIFF\0\0\0\0WAVEfmt "), None);
+    expect_eq!(rt; looks_like(b"PMTiles\x03"), Some(Lookalike::Pmtiles));
+    expect_eq!(rt; looks_like(b"fgb\x03fgb\x01"), Some(Lookalike::FlatGeobuf));
+    expect_eq!(rt; looks_like(b"\x28\xB5\x2F\xFD\x04"), Some(Lookalike::Zstd));
+    expect_eq!(rt; looks_like(b"\xFD7zXZ\0"), Some(Lookalike::Xz));
+    expect_eq!(rt; looks_like(b"BZh91AY&SY"), Some(Lookalike::Bzip2));
+    expect_eq!(rt; looks_like(b"PK\x03\x04"), Some(Lookalike::Zip));
+    expect_eq!(rt; looks_like(b"%PDF-1.7\n"), Some(Lookalike::Pdf));
+    expect_eq!(rt; looks_like(b"\0\0\0\x0D\n\tOSMHeader"), Some(Lookalike::OsmPbf));
+}
+
+#[test]
+fn tells_texts(rt: HostRuntime) {
+    expect_eq!(rt; looks_like(b"404 page not found"), Some(Lookalike::PlainText));
+    expect_eq!(rt; looks_like(b"abc"), None);
+    expect_eq!(rt; looks_like(b"12.5;a7\n"), None);
+    expect_eq!(rt; looks_like(b"not found\0"), None);
+    expect_eq!(rt; looks_like(b"\xEF\xBB\xBFname;id\r\n"), Some(Lookalike::PlainText));
+    expect_eq!(rt; looks_like(b"\n<!DOCTYPE html><html>"), Some(Lookalike::Html));
+    expect_eq!(rt; looks_like(b"<?xml version=\"1.0\"?><Error>"), Some(Lookalike::Html));
+    expect_eq!(rt; looks_like(b"\xEF\xBB\xBF<?xml version=\"1.0\"?>"), Some(Lookalike::Xml));
+    expect_eq!(rt; looks_like(b"{\"layers\":[]}"), Some(Lookalike::Json));
+    expect_eq!(rt; looks_like(b"\xEF\xBB\xBF \r\n\t{\"layers\":[]}"), Some(Lookalike::Json));
+    expect_eq!(rt; looks_like(b" [true]"), Some(Lookalike::Json));
+}
+
+#[test]
+fn tells_stores(rt: HostRuntime) {
+    expect_eq!(rt; looks_like(b"SQLite format 3\0"), Some(Lookalike::Sqlite));
+    let store = b"SQLite format 3\0\x10CREATE TABLE tiles (zoom_level, tile_column)";
+    expect_eq!(rt; looks_like(store), Some(Lookalike::Mbtiles));
+}
+
+// In 0x1B are a window of 22 bits, a last block that isn't empty, and its length in four digits,
+// less one, which follow (RFC 7932, 9.1 and 9.2).
+#[test]
+fn tells_brotli(rt: HostRuntime) {
+    let block = Some(Lookalike::Brotli);
+    expect_eq!(rt; looks_like(b"\x1B\x14\0\0\x9C0123456789ABCDE"), block);
+    expect_eq!(rt; looks_like(b"\x1B\x9E\x0F\0\x9C0123456789ABCDE"), block);
+    // As long as the file, 200 times as long, and of a file that is too short.
+    expect_eq!(rt; looks_like(b"\x1B\x13\0\0\x9C0123456789ABCDE"), None);
+    expect_eq!(rt; looks_like(b"\x1B\x9F\x0F\0\x9C0123456789ABCDE"), None);
+    expect_eq!(rt; looks_like(b"\x1B\x14\0\0\x9C0123456789ABCD"), None);
+    // Not the last block, which is compressed, and one that isn't.
+    expect_eq!(rt; looks_like(b"\x0B\x6D\x07\0\x9C0123456789ABCDE"), block);
+    expect_eq!(rt; looks_like(b"\x0B\x6D\x87\0\x9C0123456789ABCDE"), None);
+    // An empty last block, no such number of digits, and a highest digit of 0.
+    expect_eq!(rt; looks_like(b"\x3B\x6D\x07\0\x9C0123456789ABCDE"), None);
+    expect_eq!(rt; looks_like(b"\xDB\x6D\x07\0\x9C0123456789ABCDE"), None);
+    expect_eq!(rt; looks_like(b"\x2B\x32\0\0\x9C0123456789ABCDE"), None);
+    // Windows of one bit and of seven, and the one that isn't allowed.
+    expect_eq!(rt; looks_like(b"\x82\x0C\0\0\x9C0123456789ABCDE"), block);
+    expect_eq!(rt; looks_like(b"\x81\x20\x03\0\x9C0123456789ABCDE"), block);
+    expect_eq!(rt; looks_like(b"\x91\x20\x03\0\x9C0123456789ABCDE"), None);
 }
 
 fn is_explanation_refused(rt: &(impl Abort + AllocGlobal)) -> bool {
