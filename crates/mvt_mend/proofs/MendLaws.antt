@@ -4,4 +4,4 @@ pub use Rattle.mvt_mend.proofs.OriginLemmas.{lines_come_from_lines, rings_come_f
 pub use Rattle.mvt_mend.proofs.MendedLemmas.{mended_comes_from_spelled}
 pub use Rattle.mvt_mend.proofs.ReadLemmas.{spelled_is_read}
 pub use Rattle.mvt_mend.proofs.SmallLemmas.{mended_draws}
-pub use Rattle.mvt_mend.proofs.TurningLemmas.{turned_area}
+pub use Rattle.mvt_mend.proofs.TurningLemmas.{turned_area, exterior_area as directed_area_exterior, interior_area as directed_area_interior}

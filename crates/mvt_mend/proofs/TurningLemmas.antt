@@ -1,13 +1,15 @@
 -- A turned ring has the opposite area.
-use Rattle.std.proofs.Common.{arith, ◌≡◌, Bool, true, false, ℤ, pos, neg_ℤ, ◌+ℤ◌, ◌-ℤ◌, ◌*ℤ◌, List, [], ◌∷◌, ◌++◌, reverse, refl, sym, ap, ap₂, subst, ◌∙◌}
+use Rattle.std.proofs.Common.{arith, ◌≡◌, Bool, true, false, ℤ, pos, neg_ℤ, ◌+ℤ◌, ◌-ℤ◌, ◌*ℤ◌, ◌≤ℤ◌, ◌<ℤ◌, List, [], ◌∷◌, ◌++◌, reverse, refl, sym, ap, ap₂, subst, ◌∙◌}
 use Rattle.std.specs.Prelude.{if◌then◌else◌}
 use Rattle.std.specs.Ordering.{int_eq}
-use Rattle.std.proofs.lemmas.Int.{ints}
+use Rattle.std.proofs.lemmas.Int.{ints, by_lt_z}
 use Rattle.std.proofs.lemmas.List.{reverse-append}
 use Rattle.mvt_geometry.specs.declared.shape.Point.{Point}
 use Rattle.mvt_geometry.specs.Area.{cross, crosses, area2}
 use Rattle.mvt_mend.specs.Repeats.{is_same}
-use Rattle.mvt_mend.specs.Turning.{past, turned}
+use Rattle.mvt_mend.specs.Turning.{past, turned, as_exterior, as_interior}
+use Rattle.mvt_mend.specs.Signs.{is_positive, is_negative}
+use Rattle.std.specs.Int.Signed.{lt_z}
 use Rattle.mvt_mend.proofs.SpellingLemmas.{and_true}
 
 -- what the edges from each point to the next add
@@ -103,3 +105,26 @@ negative a b e = omega (arith, ints)
 
 pub turned_area : (ring : List Point) → area2 (turned ring) ≡ neg_ℤ (area2 ring)
 turned_area ring = negative (area2 (turned ring)) (area2 ring) (turned_sum ring)
+
+no_less : (a b : ℤ) → a ≡ neg_ℤ b → b <ℤ pos 0 → pos 0 ≤ℤ a
+no_less a b e low = omega (arith, ints, low)
+
+no_more : (a b : ℤ) → a ≡ neg_ℤ b → pos 0 <ℤ b → a ≤ℤ pos 0
+no_more a b e high = omega (arith, ints, high)
+
+-- rings as exterior and as interior ones have no area that they may not have
+pub exterior_area : (ring : List Point) → pos 0 ≤ℤ area2 (as_exterior ring)
+unfolding as_exterior is_negative
+exterior_area ring =
+    by_lt_z (area2 ring) (pos 0)
+    (λ low. let yes : lt_z (area2 ring) (pos 0) ≡ true = grind (arith, ints) in
+    rw yes (no_less (area2 (turned ring)) (area2 ring) (turned_area ring) low))
+    (λ high. let no : lt_z (area2 ring) (pos 0) ≡ false = grind (arith, ints) in rw no high)
+
+pub interior_area : (ring : List Point) → area2 (as_interior ring) ≤ℤ pos 0
+unfolding as_interior is_positive
+interior_area ring =
+    by_lt_z (pos 0) (area2 ring)
+    (λ low. let yes : lt_z (pos 0) (area2 ring) ≡ true = grind (arith, ints) in
+    rw yes (no_more (area2 (turned ring)) (area2 ring) (turned_area ring) low))
+    (λ high. let no : lt_z (pos 0) (area2 ring) ≡ false = grind (arith, ints) in rw no high)

@@ -1,4 +1,5 @@
--- Lines and rings mended: what breaks no rule of the specification's 4.3.3.2 and 4.3.4.4 for another reason is drawn.
+-- Lines and rings mended: no point repeated (Mapbox Vector Tile Specification 2.1, 4.3.3.2), and each ring in the direction
+-- that it should have (4.3.4.4).
 use Rattle.std.specs.Prelude.{ℕ, ◌-◌, nat_lt, Bool, false, if◌then◌else◌, List, [], ◌∷◌, ◌++◌, map, Option, Some, None}
 use Rattle.mvt_geometry.specs.declared.shape.Point.{Point}
 use Rattle.mvt_mend.specs.Signs.{is_negative, is_flat}

@@ -33,7 +33,8 @@ rings_after gone (ring ∷ rings) =
     if gone && not (is_positive ring) then rings_after true rings
     else (if is_long 3 ring then ring ∷ rings_after false rings else rings_after false rings)
 
--- the same of all rings, the first of which is an exterior one whatever its area. Others that are too short have none
+-- the same of all rings. The first is an exterior one, whatever its area; any other that is too short has no area, and so is
+-- none
 abbrev pub long_rings : List (List Point) → List (List Point)
 long_rings [] = []
 long_rings (ring ∷ rings) = if is_long 3 ring then ring ∷ rings_after false rings else rings_after true rings

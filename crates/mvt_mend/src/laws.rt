@@ -1,5 +1,5 @@
 //! Laws about the definitions alone: functions without effect, whose contract is the law.
-ghost use Rattle.std.specs.Prelude.{◌≡◌, ◌<◌, ℕ, Bool, true, List, ◌∷◌, length, None, Some, neg_ℤ};
+ghost use Rattle.std.specs.Prelude.{◌≡◌, ◌<◌, ℕ, Bool, true, List, ◌∷◌, length, None, Some, pos, neg_ℤ, ◌≤ℤ◌};
 ghost use Rattle.std.specs.List.{AllByRecursion};
 ghost use Rattle.mvt_geometry.specs.declared.shape.Geometry.{Geometry};
 ghost use Rattle.mvt_geometry.specs.declared.shape.Kind.{Kind};
@@ -14,7 +14,7 @@ ghost use Rattle.mvt_mend.specs.Mending.{mended_lines, mended_rings};
 ghost use Rattle.mvt_mend.specs.Origins.{ComeFrom};
 ghost use Rattle.mvt_mend.specs.Reading.{parts_in};
 ghost use Rattle.mvt_mend.specs.Spelling.{has_rings, HasForm, IsMendedTo};
-ghost use Rattle.mvt_mend.specs.Turning.{turned};
+ghost use Rattle.mvt_mend.specs.Turning.{turned, as_exterior, as_interior};
 
 /// Integers that draw a geometry stay.
 pub fn drawn_stays()
@@ -69,4 +69,10 @@ pub fn spelled_is_read()
 /// A ring told in the other direction has the opposite area.
 pub fn turned_area()
     ensures { (ring : List Point) → area2 (turned ring) ≡ neg_ℤ (area2 ring) }
+{}
+
+/// As an exterior one a ring has no negative area, and as an interior one no positive area.
+pub fn directed_area()
+    ensures exterior { (ring : List Point) → pos 0 ≤ℤ area2 (as_exterior ring) }
+    ensures interior { (ring : List Point) → area2 (as_interior ring) ≤ℤ pos 0 }
 {}
