@@ -460,8 +460,10 @@ int main(int argc, char **argv) try {
                                   std::string(why.name()),
                 "the line of a fault");
         require(why.what() == why.line() + ": " + std::string(why.sentence()), "the text of a fault");
+        // A decoder keeps no bytes that it could look at.
         const bool looks = why.sentence().starts_with("This isn't a tile, but looks like ");
-        require(mvt::looks_like(mvt::bytes_of(input)).has_value() == looks, "what the bytes look like");
+        if (std::string_view(argv[1]) != "pieces")
+            require(mvt::looks_like(mvt::bytes_of(input)).has_value() == looks, "what the bytes look like");
         return 1;
     }
     return std::cout.flush() ? 0 : 3;
