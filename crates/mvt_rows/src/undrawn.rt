@@ -2,9 +2,9 @@
 
 /// A rule of what commands draw (4.3).
 ///
-/// All but the last two are those of [`GeometryCause`](mvt_geometry::GeometryCause), and the points
-/// of such a part, spelled as integers, would be refused with that cause. By the last two the
-/// integers would be read, but as other polygons.
+/// All but the last two are those of [`GeometryCause`](mvt_geometry::GeometryCause): the integers
+/// that the points would be spelled as, where 32 bits hold each, are refused for that cause. By the
+/// last two the integers would be read, but as other polygons.
 #[derive(Clone, Copy, Debug, PartialEq, Eq)]
 pub enum DrawingRule {
     /// A line has fewer than two points, a ring fewer than three, or there are no points; of a part.
