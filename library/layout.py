@@ -192,7 +192,7 @@ def go(header):
         lines += ["", f"// The {kind.lower()}s.", "const ("]
         lines += [f"\t{kind}{name:<{width}} {of} = {number}" for name, number in names]
         lines.append(")")
-        if of in ("NoteKind", "FindingKind"):
+        if of not in ("uint32", "Role"):
             lines += ["", f"var {kind.lower()}Names = map[{of}]string{{"]
             lines += [f"\t{kind}{name}:{' ' * (width - len(name))} \"{name}\"," for name, _ in names]
             lines.append("}")

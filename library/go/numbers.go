@@ -110,3 +110,27 @@ const (
 	LookalikeBrotli     Lookalike = 20
 	LookalikeMbtiles    Lookalike = 21
 )
+
+var lookalikeNames = map[Lookalike]string{
+	LookalikeGzip:       "Gzip",
+	LookalikeZlib:       "Zlib",
+	LookalikeZstd:       "Zstd",
+	LookalikePng:        "Png",
+	LookalikeSqlite:     "Sqlite",
+	LookalikePmtiles:    "Pmtiles",
+	LookalikeJson:       "Json",
+	LookalikeHtml:       "Html",
+	LookalikeJpeg:       "Jpeg",
+	LookalikeGif:        "Gif",
+	LookalikeWebp:       "Webp",
+	LookalikeFlatGeobuf: "FlatGeobuf",
+	LookalikeXz:         "Xz",
+	LookalikeBzip2:      "Bzip2",
+	LookalikeZip:        "Zip",
+	LookalikePdf:        "Pdf",
+	LookalikeOsmPbf:     "OsmPbf",
+	LookalikeXml:        "Xml",
+	LookalikePlainText:  "PlainText",
+	LookalikeBrotli:     "Brotli",
+	LookalikeMbtiles:    "Mbtiles",
+}
