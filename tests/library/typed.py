@@ -37,6 +37,6 @@ def use(content: bytes) -> List[int]:
         where: Tuple[Optional[int], Optional[int]] = (fault.start, fault.end)
         fault.start + 1  # type: ignore[operator]
         kind: Optional[str] = mvt.looks_like(content)
-        places += [(0, end) for end in where if end is not None]
+        places += [(0, end) for end in where if end is not None and kind is None]
     sizes += [len(ids), len(notes), len(text)]
     return sizes + versions + all_versions + [first.extent, len(places), len(columns), len(tags), len(kinds), len(both), len(names), len(built)]
