@@ -87,6 +87,18 @@ class Calls(Served):
         self.assertEqual(self.serving.call("extract", frames(b"a", BROKEN)), wanted)
         self.assertEqual(self.serving.call("judge", b"\0"), struct.pack("<IIqqQII", 1, 0, -1, -1, 0, 3, 11) + b"FieldNumber")
 
+    def test_what_is_round_a_fault(self):
+        def around(tile):
+            return json.loads(self.serving.call("around", tile)[8:])
+
+        told = around(BROKEN)
+        self.assertEqual((told["integers"]["list"], told["integers"]["index"]), ("geometry", 8))
+        self.assertIsNotNone(told["shape"])
+        nothing = {"integers": None, "shape": None}
+        self.assertEqual(around(GDAL), nothing)
+        # The same behind a field 100 of 8 MiB, which no reader knows: of so large a tile nothing more is told.
+        self.assertEqual(around(b"\xa2\x06\x80\x80\x80\x04" + bytes(1 << 23) + BROKEN), nothing)
+
     def test_what_bytes_look_like(self):
         """The number of a GIF in mvt_lookalike, and the sentence."""
         sentence = b"This isn't a tile, but looks like a GIF picture."

@@ -30,6 +30,8 @@ from .frames import Part
 MOST_ROWS = 1 << 30
 
 OK, REFUSED, NO_MEMORY = 0, 1, 2
+# What there is round a fault has up to 70 times as many bytes as the tile; of tiles above so many bytes none is told.
+MOST_AROUND = 1 << 23
 # GeoJSON has at most so many bytes: a text stands there once for each feature that has it.
 _MOST_GEOJSON = 1 << 30
 
@@ -46,11 +48,12 @@ def _explain(body: bytearray) -> Answer:
 
 
 def _around(body: bytearray) -> Answer:
-    """What there is round the fault of a tile that is refused, as JSON: nothing where there is no memory for it, or no fault."""
+    """What there is round the fault of a tile that is refused, as JSON: nothing where there is no memory for it, or no fault, or
+    where the tile is large."""
     tile = bytes(body)
     status, made = answer("judge", tile)
     told = {"integers": None, "shape": None}
-    if status == REFUSED:
+    if status == REFUSED and len(tile) <= MOST_AROUND:
         with suppress(MemoryError):
             told = around_told(tile, made)
     return _spelled(OK, json.dumps(told, separators=(",", ":")).encode())
