@@ -56,7 +56,7 @@ def _around(body: bytearray) -> Answer:
     if status == REFUSED and len(tile) <= MOST_AROUND:
         with suppress(MemoryError):
             told = around_told(tile, made)
-    return _spelled(OK, json.dumps(told, separators=(",", ":")).encode())
+    return _spelled(OK, json.dumps(told, separators=(",", ":")).encode(), tile)
 
 
 def _made(call: str, body: bytearray) -> Answer:
