@@ -246,7 +246,7 @@ for (const [name, how] of [['a phone', PHONE], ['a screen', WIDE]]) {
 // ---- what a file is
 
 const KINDS = {
-  'a picture': ['a.png', Buffer.from('\x89PNG\r\n\x1a\n', 'latin1'), 'a picture (PNG)'],
+  'a picture': ['a.png', Buffer.from('\x89PNG\r\n\x1a\n', 'latin1'), 'a PNG picture'],
   'an MBTiles store': ['a.mbtiles', Buffer.from(`SQLite format 3\0${' '.repeat(200)}tile_column`, 'latin1'), 'mvt-audit'],
   'a damaged gzip': ['a.mvt', gzipSync(readFileSync(gdal)).subarray(0, 200), 'damaged'],
   'brotli': ['b.mvt', brotliCompressSync(readFileSync(gdal)), 'brotli'],
