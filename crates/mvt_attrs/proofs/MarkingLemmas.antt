@@ -1,16 +1,17 @@
 -- Keys in their groups, and the marks that a feature leaves at the places of its keys.
-use Rattle.std.proofs.Common.{◌≡◌, ℕ, ◌+◌, ◌<◌, ◌==◌, Bool, true, false, not, ◌||◌, List, [], ◌∷◌, ◌++◌, length, get_or, set, Option, Some, None, slice_get, bytes_eq, refl, sym, ap, subst, ◌∙◌, ⊎_elim, arith}
+use Rattle.std.proofs.Common.{◌≡◌, ℕ, ◌+◌, ◌<◌, ◌==◌, Bool, Bor, true, false, not, ◌||◌, List, [], ◌∷◌, ◌++◌, length, get_or, set, Option, Some, None, slice_get, bytes_eq, refl, sym, ap, subst, ◌∙◌, ⊎_elim, arith}
 use Rattle.std.specs.Map.{update}
 use Rattle.std.specs.Option.{unwrap_or}
 use Rattle.std.proofs.Math.Seq.{get_or-append_seam}
 use Rattle.std.proofs.Math.Bool.{or-true, or-false}
 use Rattle.std.proofs.lemmas.Bool.{eq-eqb, ne_eqb, not-true, not-false, cases_eq, false≢true}
-use Rattle.std.proofs.lemmas.List.{get_or-set_same, get_or-set_other, get_or_append_left, length_push}
+use Rattle.std.proofs.lemmas.List.{get_or-map, length-map, get_or-set_same, get_or-set_other, get_or_append_left, length_push}
 use Rattle.std.proofs.lemmas.List.Folds.{list_any-append}
 use Rattle.std.proofs.lemmas.Map.{update_same, update_other}
 use Rattle.std.proofs.lemmas.Option.{slice_get_within, slice_get-get_or}
 use Rattle.std.proofs.lemmas.Slice.Eq.{bytes_eq-Decides}
 use Rattle.mvt_attrs.specs.declared.value.Attribute.{Attribute}
+use Rattle.mvt_attrs.specs.FirstUses.{lent}
 use Rattle.mvt_attrs.specs.Inner.Marking.{IsGrouped, IsMarked, AreBelow}
 use Rattle.mvt_attrs.specs.Tags.{has_key}
 
@@ -177,3 +178,14 @@ marked_more texts first_indices named_by feature attributes k a groups room at m
         by : (b : Bool) → bytes_eq a.key text ≡ b → b ≡ false
         by true e = absurd (ne (groups.together i k a.key (at_i ∙ ap Some (sym ((bytes_eq-Decides a.key text).0 e))) at))
         by false e = refl
+
+-- ---- texts that are lent
+
+pub length-lent : (entries : List (Bor (List ℕ))) → length (lent entries) ≡ length entries
+length-lent entries = length-map entries (λ (b : Bor (List ℕ)). b.now)
+
+pub lent_at : (entries : List (Bor (List ℕ))) (i : ℕ) (d : Bor (List ℕ)) → i < length entries
+    → slice_get (lent entries) i ≡ Some (get_or entries i d).now
+lent_at entries i d inside =
+    slice_get-get_or (lent entries) i d.now (omega (arith, length-lent entries, inside))
+    ∙ ap Some (get_or-map (λ (b : Bor (List ℕ)). b.now) entries i d d.now inside)

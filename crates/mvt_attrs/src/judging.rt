@@ -2,12 +2,13 @@
 ghost use Rattle.std.specs.Prelude.{◌≡◌, ◌+◌, ◌^◌, ◌<◌, ◌≤◌, List, length, None, IfErr, IsErrOf, OnOk};
 ghost use Rattle.mvt_base.specs.Reports.{Reports};
 ghost use Rattle.mvt_attrs.specs.declared.value.Value.{Value};
+ghost use Rattle.mvt_attrs.specs.FirstUses.{lent};
 ghost use Rattle.mvt_attrs.specs.TagRules.{tag_fault, fault_of};
 ghost use Rattle.mvt_attrs.specs.Inner.Marking.{IsGrouped, AreBelow, IsIndexError};
 
 use crate::layer_keys::{LayerKeys, make_ready, mark, next_feature};
 use crate::resolving::{TagCause, TagError};
-use mvt_base::Text;
+use crate::texts::count_of;
 use std::alloc::Global;
 
 /// Whether a feature's tags name attributes, in a layer with these keys and this number of values
@@ -58,12 +59,12 @@ pub fn judge_tags(
 }
 
 /// The same if there is one pair at most, which repeats no key.
-pub(crate) fn judge_pair(texts: &[Text], values: usize, tags: &[u32]) -> Result<(), TagError>
+pub(crate) fn judge_pair(texts: &[&str], values: usize, tags: &[u32]) -> Result<(), TagError>
     requires { length tags.now ≤ 2 }
     ensures ok { OnOk result ((held : List Value) → length held ≡ values
-        → tag_fault texts.now held tags.now ≡ None) }
+        → tag_fault (lent texts.now) held tags.now ≡ None) }
     ensures err { IfErr result (λ error. (held : List Value) → length held ≡ values
-        → Reports (fault_of error) (tag_fault texts.now held tags.now)) }
+        → Reports (fault_of error) (tag_fault (lent texts.now) held tags.now)) }
     ensures never { IsErrOf result TagError.Memory → ⊥ }
 {
     match tags {
@@ -75,20 +76,20 @@ pub(crate) fn judge_pair(texts: &[Text], values: usize, tags: &[u32]) -> Result<
 
 /// The same, over keys in their groups that this feature has not named yet.
 fn judge_marked(
-    texts: &[Text],
+    texts: &[&str],
     first_indices: &[usize],
     named_by: &mut [u32],
     feature: u32,
     values: usize,
     tags: &[u32],
 ) -> Result<(), TagError>
-    requires grouped { IsGrouped texts.now first_indices.now }
-    requires room { length named_by.old ≡ length texts.now }
+    requires grouped { IsGrouped (lent texts.now) first_indices.now }
+    requires room { length named_by.old ≡ length (lent texts.now) }
     requires fresh { AreBelow named_by.old feature }
     ensures ok { OnOk result ((held : List Value) → length held ≡ values
-        → tag_fault texts.now held tags.now ≡ None) }
+        → tag_fault (lent texts.now) held tags.now ≡ None) }
     ensures err { IfErr result (λ error. (held : List Value) → length held ≡ values
-        → Reports (fault_of error) (tag_fault texts.now held tags.now)) }
+        → Reports (fault_of error) (tag_fault (lent texts.now) held tags.now)) }
     ensures below { AreBelow named_by.new (feature + 1) }
 {
     if tags.len() % 2 == 1 {
@@ -109,17 +110,17 @@ fn judge_marked(
 /// Whether a pair names a key and a value, where the index of its key among the tags is `index`.
 #[inline(always)]
 fn judge_indices(
-    texts: &[Text],
+    texts: &[&str],
     values: usize,
     index: usize,
     key: u32,
     value: u32,
 ) -> Result<(), TagError>
     requires { index + 1 < 2 ^ 64 }
-    ensures ok { OnOk result ((key < length texts.now) × (value < values)) }
-    ensures err { IfErr result (IsIndexError texts.now values index key value) }
+    ensures ok { OnOk result ((key < length (lent texts.now)) × (value < values)) }
+    ensures err { IfErr result (IsIndexError (lent texts.now) values index key value) }
 {
-    if key as usize >= texts.len() {
+    if key as usize >= count_of(texts) {
         return Err(fault(index, TagCause::KeyIndex));
     }
     if value as usize >= values {

@@ -4,9 +4,10 @@ ghost use Rattle.std.specs.Bool.{OnTrue};
 ghost use Rattle.std.specs.Map.{update};
 ghost use Rattle.std.specs.Option.{unwrap_or};
 ghost use Rattle.mvt_attrs.specs.FirstUse.{AreDistinct};
+ghost use Rattle.mvt_attrs.specs.FirstUses.{lent};
 ghost use Rattle.mvt_attrs.specs.Inner.Marking.{IsGrouped, IsReady, AreBelow, place_in_map};
 
-use crate::apart::index_apart;
+use crate::distinct::are_distinct;
 use mvt_base::Text;
 use std::alloc::{AllocError, Global};
 use std::collections::BTreeMap;
@@ -22,11 +23,11 @@ use std::marker::Model;
 /// ```
 ///
 /// The first feature with two pairs or more groups the keys, in the time of sorting them. From then
-/// on it takes constant time to find whether a feature has named a key's text before. Contracts see
-/// the texts.
+/// on it takes constant time to find whether a feature has named a key's text before. The texts
+/// are lent; the first feature that keeps some has each copied once. Contracts see the texts.
 #[derive(Drop)]
 pub struct LayerKeys<'k> {
-    pub(crate) texts: &'k [Text],
+    pub(crate) texts: &'k [&'k str],
     pub(crate) is_grouped: bool,
     /// For each key the first index of its text, if they are grouped.
     pub(crate) first_indices: Vec<usize>,
@@ -34,25 +35,30 @@ pub struct LayerKeys<'k> {
     pub(crate) named_by: Vec<u32>,
     /// The number of the last feature, from 1; after the last number they begin again.
     pub(crate) feature: u32,
+    pub(crate) is_kept: bool,
+    /// The texts with memory of their own, if they are kept.
+    pub(crate) kept: Vec<Text>,
 }
 
 impl<'k> Model for LayerKeys<'k> {
-    ghost use Rattle.std.specs.Prelude.{List, ℕ};
+    ghost use Rattle.std.specs.Prelude.{◌≡◌, List, ℕ};
     ghost use Rattle.std.specs.Bool.{OnTrue};
+    ghost use Rattle.mvt_attrs.specs.FirstUses.{lent};
     ghost use Rattle.mvt_attrs.specs.Inner.Marking.{IsReady};
 
     ghost Value = { List (List ℕ) };
 
-    ghost view = { λ k. k.texts.now };
+    ghost view = { λ k. lent k.texts.now };
 
     ghost invariant = { λ k. OnTrue k.is_grouped
-        (IsReady k.texts.now k.first_indices.items k.named_by.items k.feature) };
+        (IsReady (lent k.texts.now) k.first_indices.items k.named_by.items k.feature)
+        × OnTrue k.is_kept (k.kept.items ≡ lent k.texts.now) };
 }
 
 impl<'k> LayerKeys<'k> {
     /// The keys as they stand, without memory.
-    pub fn new(alloc: Global, texts: &'k [Text]) -> Self
-        ensures { result ≡ texts.now }
+    pub fn new(alloc: Global, texts: &'k [&'k str]) -> Self
+        ensures { result ≡ lent texts.now }
     {
         LayerKeys {
             texts,
@@ -60,6 +66,8 @@ impl<'k> LayerKeys<'k> {
             first_indices: Vec::new(alloc),
             named_by: Vec::new(alloc),
             feature: 0,
+            is_kept: false,
+            kept: Vec::new(alloc),
         }
     }
 }
@@ -67,16 +75,16 @@ impl<'k> LayerKeys<'k> {
 /// Puts the keys in groups, if they aren't yet.
 pub(crate) fn make_ready(
     alloc: Global,
-    texts: &[Text],
+    texts: &[&str],
     is_grouped: bool,
     first_indices: &mut Vec<usize>,
     named_by: &mut Vec<u32>,
     feature: u32,
 ) -> Result<(), AllocError>
     requires { OnTrue is_grouped
-        (IsReady texts.now first_indices.old.items named_by.old.items feature) }
+        (IsReady (lent texts.now) first_indices.old.items named_by.old.items feature) }
     ensures ready { OnOk result
-        (IsReady texts.now first_indices.new.items named_by.new.items feature) }
+        (IsReady (lent texts.now) first_indices.new.items named_by.new.items feature) }
     ensures err { OnErr result (is_grouped ≡ false) }
 {
     if is_grouped {
@@ -88,19 +96,20 @@ pub(crate) fn make_ready(
 }
 
 /// For each text the first index at which it stands.
-fn group(alloc: Global, texts: &[Text]) -> Result<Vec<usize>, AllocError>
-    ensures { IfOk result (λ first_indices. IsGrouped texts.now first_indices.items) }
+fn group(alloc: Global, texts: &[&str]) -> Result<Vec<usize>, AllocError>
+    ensures { IfOk result (λ first_indices. IsGrouped (lent texts.now) first_indices.items) }
 {
-    match index_apart(alloc, texts)? {
-        Some(_) => group_apart(alloc, texts),
-        None => group_many(alloc, texts),
+    if are_distinct(alloc, texts)? {
+        group_apart(alloc, texts)
+    } else {
+        group_many(alloc, texts)
     }
 }
 
 /// The same for texts that stand once each.
-fn group_apart(alloc: Global, texts: &[Text]) -> Result<Vec<usize>, AllocError>
-    requires { AreDistinct texts.now }
-    ensures { IfOk result (λ first_indices. IsGrouped texts.now first_indices.items) }
+fn group_apart(alloc: Global, texts: &[&str]) -> Result<Vec<usize>, AllocError>
+    requires { AreDistinct (lent texts.now) }
+    ensures { IfOk result (λ first_indices. IsGrouped (lent texts.now) first_indices.items) }
 {
     let mut first_indices = Vec::with_capacity(alloc, texts.len())?;
     for index in 0..texts.len() {
@@ -110,13 +119,13 @@ fn group_apart(alloc: Global, texts: &[Text]) -> Result<Vec<usize>, AllocError>
 }
 
 /// The same by a map of the texts so far.
-fn group_many(alloc: Global, texts: &[Text]) -> Result<Vec<usize>, AllocError>
-    ensures { IfOk result (λ first_indices. IsGrouped texts.now first_indices.items) }
+fn group_many(alloc: Global, texts: &[&str]) -> Result<Vec<usize>, AllocError>
+    ensures { IfOk result (λ first_indices. IsGrouped (lent texts.now) first_indices.items) }
 {
     let mut known = BTreeMap::new(alloc);
     let mut first_indices = Vec::with_capacity(alloc, texts.len())?;
     for (index, text) in texts.iter().enumerate() {
-        let place = place_of(&mut known, text.as_str(), index)?;
+        let place = place_of(&mut known, text, index)?;
         first_indices.push(place)?;
     }
     Ok(first_indices)

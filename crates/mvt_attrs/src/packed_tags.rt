@@ -2,12 +2,13 @@
 ghost use Rattle.std.specs.Prelude.{◌≡◌, ◌<◌, ◌+◌, ◌++◌, ◌∷◌, [], ℕ, List, length, IfOk, IfSome, IsTrue};
 ghost use Rattle.mvt_attrs.specs.Inner.Fronts.{IsPairFront};
 ghost use Rattle.mvt_attrs.specs.Inner.Marking.{IsGrouped, AreBelow};
+ghost use Rattle.mvt_attrs.specs.FirstUses.{lent};
 ghost use Rattle.mvt_attrs.specs.Packed.{AreFound};
 
 use crate::judging::judge_pair;
 use crate::layer_keys::{LayerKeys, make_ready, mark, next_feature};
 use crate::placing::push_pair;
-use mvt_base::Text;
+use crate::texts::count_of;
 use mvt_wire::spelled_front;
 use std::alloc::{AllocError, Global};
 
@@ -125,13 +126,13 @@ pub fn judge_packed<V: TagVisitor>(
 /// The same for a pair with nothing behind it, which repeats no key.
 fn judge_one<V: TagVisitor>(
     visitor: &mut V,
-    texts: &[Text],
+    texts: &[&str],
     values: usize,
     pair: &Pair<'_>,
 ) -> Result<PackedTags, AllocError>
     requires { pair.now.after.now ≡ [] }
     ensures { (bytes : List ℕ) → IsPairFront bytes pair.now → IfOk result
-        (AreFound V.has_tags visitor.old visitor.new bytes texts.now values) }
+        (AreFound V.has_tags visitor.old visitor.new bytes (lent texts.now) values) }
 {
     match judge_pair(texts, values, &[pair.key, pair.value]) {
         Ok(()) => {}
@@ -149,27 +150,28 @@ fn judge_one<V: TagVisitor>(
 #[inline(never)]
 fn judge_each<V: TagVisitor>(
     visitor: &mut V,
-    texts: &[Text],
+    texts: &[&str],
     first_indices: &[usize],
     named_by: &mut [u32],
     feature: u32,
     values: usize,
     bytes: &[u8],
 ) -> Result<PackedTags, AllocError>
-    requires grouped { IsGrouped texts.now first_indices.now }
-    requires room { length named_by.old ≡ length texts.now }
+    requires grouped { IsGrouped (lent texts.now) first_indices.now }
+    requires room { length named_by.old ≡ length (lent texts.now) }
     requires fresh { AreBelow named_by.old feature }
     ensures found { IfOk result
-        (AreFound V.has_tags visitor.old visitor.new bytes.now texts.now values) }
+        (AreFound V.has_tags visitor.old visitor.new bytes.now (lent texts.now) values) }
     ensures below { AreBelow named_by.new (feature + 1) }
 {
+    let count = count_of(texts);
     let mut is_short = true;
     let mut rest = bytes;
     while !rest.is_empty() {
         let Some(pair) = pair_front(rest) else {
             return Ok(PackedTags::Broken);
         };
-        if pair.key as usize >= texts.len() || pair.value as usize >= values {
+        if pair.key as usize >= count || pair.value as usize >= values {
             return Ok(PackedTags::Broken);
         }
         if !mark(first_indices, named_by, feature, pair.key as usize) {

@@ -6,6 +6,7 @@ ghost use Rattle.mvt_attrs.specs.TagRules.{tag_fault, fault_of};
 
 use crate::judging::judge_tags;
 use crate::layer_keys::LayerKeys;
+use crate::texts::{lend_texts, texts_of};
 use crate::value::{Attribute, Value};
 use mvt_base::Text;
 use std::alloc::{AllocError, Global};
@@ -96,7 +97,9 @@ pub fn resolve(
     ensures err { IfErr result (λ error. Reports (fault_of error)
         (tag_fault keys.now values.now tags.now)) }
 {
-    resolve_in(alloc, &mut LayerKeys::new(alloc, keys), values, tags)
+    let lent = lend_texts(alloc, keys)?;
+    judge_tags(alloc, &mut LayerKeys::new(alloc, &lent), values.len(), tags)?;
+    Ok(attributes_of(alloc, keys, values, tags)?)
 }
 
 /// The attributes that tags name, with keys that are grouped once a layer.
@@ -119,7 +122,11 @@ pub fn resolve_in(
     ensures same { keys.new ≡ keys.old }
 {
     judge_tags(alloc, keys, values.len(), tags)?;
-    Ok(attributes_of(alloc, keys.texts, values, tags)?)
+    if !keys.is_kept {
+        keys.kept = texts_of(alloc, keys.texts)?;
+        keys.is_kept = true;
+    }
+    Ok(attributes_of(alloc, &keys.kept, values, tags)?)
 }
 
 /// The attributes that tags name which keep all rules.

@@ -24,7 +24,12 @@ fn fault_over(rt: &(impl Abort + AllocGlobal), keys: &[Text], tags: &[u32]) -> O
 
 // The same where they are only judged.
 fn judged_over(rt: &(impl Abort + AllocGlobal), keys: &[Text], tags: &[u32]) -> Option<TagError> {
-    judge_tags(rt.alloc(), &mut LayerKeys::new(rt.alloc(), keys), 1, tags).err()
+    let lent = lend_texts(rt.alloc(), keys).expect(rt, "memory");
+    let mut layer = LayerKeys::new(rt.alloc(), &lent);
+    let judged = judge_tags(rt.alloc(), &mut layer, 1, tags).err();
+    drop(layer);
+    drop(lent);
+    judged
 }
 
 fn fault(index: usize, cause: TagCause) -> Option<TagError> {
@@ -114,13 +119,15 @@ fn resolves_any_number_of_tags(rt: HostRuntime) {
 // Features of one layer, one after the other.
 fn expect_features(rt: &(impl Abort + AllocGlobal), keys: &[Text], tags: &[u32]) {
     let values = [Value::Bool(true)];
-    let mut layer = LayerKeys::new(rt.alloc(), keys);
+    let lent = lend_texts(rt.alloc(), keys).expect(rt, "memory");
+    let mut layer = LayerKeys::new(rt.alloc(), &lent);
     for _feature in 0..3 {
         expect!(rt; resolve_in(rt.alloc(), &mut layer, &values, tags).is_ok());
         let twice = resolve_in(rt.alloc(), &mut layer, &values, &[19, 0, 0, 0]).err();
         expect_eq!(rt; twice, fault(2, TagCause::RepeatedKey));
     }
     drop(layer);
+    drop(lent);
 }
 
 // Twenty keys, the last of which is the first again.
@@ -143,11 +150,13 @@ fn expect_last_is_first(rt: &(impl Abort + AllocGlobal), count: u32) {
     let last = count.saturating_sub(1);
     let mut keys = numbered_keys(rt.alloc(), last).expect(rt, "keys");
     keys.push(text(rt, "0")).expect(rt, "keys");
-    let mut layer = LayerKeys::new(rt.alloc(), &keys);
+    let lent = lend_texts(rt.alloc(), &keys).expect(rt, "memory");
+    let mut layer = LayerKeys::new(rt.alloc(), &lent);
     expect!(rt; judge_tags(rt.alloc(), &mut layer, 1, &[1, 0, last, 0]).is_ok());
     let twice = judge_tags(rt.alloc(), &mut layer, 1, &[0, 0, last, 0]).err();
     expect_eq!(rt; twice, fault(2, TagCause::RepeatedKey));
     drop(layer);
+    drop(lent);
     drop(keys);
 }
 
@@ -155,11 +164,13 @@ fn expect_last_is_first(rt: &(impl Abort + AllocGlobal), count: u32) {
 fn expect_all_differ(rt: &(impl Abort + AllocGlobal), count: u32) {
     let last = count.saturating_sub(1);
     let keys = numbered_keys(rt.alloc(), count).expect(rt, "keys");
-    let mut layer = LayerKeys::new(rt.alloc(), &keys);
+    let lent = lend_texts(rt.alloc(), &keys).expect(rt, "memory");
+    let mut layer = LayerKeys::new(rt.alloc(), &lent);
     expect!(rt; judge_tags(rt.alloc(), &mut layer, 1, &[0, 0, last, 0]).is_ok());
     let twice = judge_tags(rt.alloc(), &mut layer, 1, &[0, 0, last, 0, last, 0]).err();
     expect_eq!(rt; twice, fault(4, TagCause::RepeatedKey));
     drop(layer);
+    drop(lent);
     drop(keys);
 }
 

@@ -1,7 +1,6 @@
 //! Tags judged where they stand packed in bytes.
 use crate::expect::{expect, expect_eq};
 use mvt_attrs::{LayerKeys, NoTags, PackedTags, TagVisitor, UseOrder, judge_packed};
-use mvt_base::Text;
 use std::process::Abort;
 
 const GOOD: PackedTags = PackedTags::Good { is_short: true };
@@ -14,16 +13,10 @@ fn found(
     visitor: &mut impl TagVisitor,
     bytes: &[u8],
 ) -> PackedTags {
-    let keys = [key(rt, "k"), key(rt, "m"), key(rt, "k")];
-    let mut layer = LayerKeys::new(rt.alloc(), &keys);
+    let mut layer = LayerKeys::new(rt.alloc(), &["k", "m", "k"]);
     let found = judge_packed(rt.alloc(), visitor, &mut layer, 2, bytes).expect(rt, "memory");
     drop(layer);
-    drop(keys);
     found
-}
-
-fn key(rt: &(impl Abort + AllocGlobal), text: &str) -> Text {
-    Text::from_str(rt.alloc(), text).expect(rt, "a text")
 }
 
 // Whole pairs, whose indices are there, and none of whose keys stands twice.

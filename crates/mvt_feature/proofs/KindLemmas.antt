@@ -1,5 +1,6 @@
 -- The kinds of value that occur in fields.
-use Rattle.std.proofs.Common.{◌≡◌, ℕ, ◌+◌, ◌==◌, ◌&&◌, Bool, true, false, List, [], ◌∷◌, ◌++◌, Some, None, Ok, refl, sym, ap, ◌∙◌, append_assoc, append-nil, subst, if◌then◌else◌}
+use Rattle.std.proofs.Common.{◌≡◌, ℕ, ◌+◌, ◌==◌, ◌&&◌, Bool, true, false, List, [], ◌∷◌, ◌++◌, Option, Some, None, Ok, refl, sym, ap, ◌∙◌, append_assoc, append-nil, subst, if◌then◌else◌}
+use Rattle.std.specs.Prelude.{IfSome, MatchOption}
 use Rattle.std.specs.List.{list_all, last_or}
 use Rattle.std.proofs.Math.Bool.{and-true}
 use Rattle.std.proofs.lemmas.Bool.{eqb-true, eqb-false, eq-eqb, ne_eqb, and_left, and_right, and_parts, and_from}
@@ -8,16 +9,17 @@ use Rattle.std.proofs.lemmas.List.Folds.{list_all-append}
 use Rattle.mvt_base.specs.Rules.{each, first}
 use Rattle.mvt_base.proofs.RuleLemmas.{each_more, each_stops, first-map_faults}
 use Rattle.mvt_base.proofs.SelectionLemmas.{last_or-more}
-use Rattle.mvt_wire.specs.Field.{Entry}
+use Rattle.mvt_wire.specs.Field.{Entry, IsFieldAt}
+use Rattle.mvt_wire.proofs.WireLaws.{field_function_end}
 use Rattle.mvt_feature.specs.declared.cause.Cause.{Cause}
 use Rattle.mvt_feature.specs.declared.value.Kinds.{Kinds}
 use Rattle.mvt_feature.specs.declared.value.Kinds.TheVariants.{Nothing, One, Several}
 use Rattle.mvt_feature.specs.declared.value.ValueRef.{ValueRef}
 use Rattle.mvt_feature.specs.Faults.{fault_at}
 use Rattle.mvt_feature.specs.Forms.{number_rules}
-use Rattle.mvt_feature.specs.Values.{value_forms, Means}
+use Rattle.mvt_feature.specs.Values.{value_forms, IsValueOf, Means}
 use Rattle.mvt_feature.specs.ValueRules.{is_kind, kinds, are_one_kind, value_field_rules}
-use Rattle.mvt_feature.proofs.ValueLemmas.{rules_clean}
+use Rattle.mvt_feature.proofs.ValueLemmas.{rules_clean, value_from}
 use Rattle.mvt_feature.specs.ValueRefs.{referred_value}
 use Rattle.mvt_feature.specs.Inner.{kinds_with, AreKindsOf, AreSoFar}
 
@@ -100,3 +102,18 @@ so_far_stops payload_at done k x cause so_far broken more =
     rw append_assoc
     (each_stops (λ _. value_field_rules payload_at) done x more (fault_at (payload_at + x.at) cause) so_far.0
     (field_broken payload_at x cause broken))
+
+-- a payload of one field of a kind is the value that this says
+pub only_meant : (payload : List ℕ) (x : Entry) (found : Option ValueRef) → IsFieldAt 0 payload x
+    → first (number_rules value_forms x.number x.content) ≡ None
+    → MatchOption found (is_kind x ≡ false) (λ m. (is_kind x ≡ true) × Means x.number x.content (referred_value m))
+    → IfSome found (λ m. IsValueOf payload (referred_value m))
+only_meant payload x None is clean means = tt
+only_meant payload x (Some m) is clean (take, means) =
+    let so_far = so_far_with 0 [] Nothing x m (refl, refl) clean take means in
+    let (one, (last, (is_last, (named, said)))) = so_far.1 in (
+      x ∷ [],
+      (payload, [], sym (append-nil payload), is, (refl, field_function_end)),
+      value_from 0 (x ∷ []) last (referred_value m) so_far.0 one is_last
+          (subst (λ n. Means n last.content (referred_value m)) (sym named) said),
+    )

@@ -17,6 +17,7 @@ ghost use Rattle.mvt_feature.specs.Valid.{ValidValue};
 
 use crate::feature_fields::FeatureFields;
 use crate::numbers::{feature, value};
+use crate::value::{BOOL_TAG, DOUBLE_TAG, FLOAT_TAG, INT_TAG, SINT_TAG, STRING_TAG, UINT_TAG};
 use mvt_attrs::{LayerKeys, PackedTags, UseOrder, judge_packed};
 use mvt_geometry::{GeometryVisitor, Kind, draw_packed};
 use mvt_wire::{Payload, are_short, short_bytes_at, short_field_at, short_number_at};
@@ -45,12 +46,32 @@ impl From<AllocError> for NotCanonical {
     }
 }
 
-/// Whether a payload is the canonical one of a value.
+/// Whether a payload is the canonical one of a value. The byte that begins it tells its form, so
+/// that each of these calls looks for one form alone.
 pub fn is_canonical_value(payload: &[u8]) -> bool
     ensures { IsTrue result → (value : AValue) × IsCanonicalValue payload.now value }
 {
+    match payload.first() {
+        Some(&STRING_TAG) => is_short_value(payload, value::STRING),
+        Some(&FLOAT_TAG) => is_short_value(payload, value::FLOAT),
+        Some(&DOUBLE_TAG) => is_short_value(payload, value::DOUBLE),
+        Some(&INT_TAG) => is_short_value(payload, value::INT),
+        Some(&UINT_TAG) => is_short_value(payload, value::UINT),
+        Some(&SINT_TAG) => is_short_value(payload, value::SINT),
+        Some(&BOOL_TAG) => is_short_value(payload, value::BOOL),
+        _ => false,
+    }
+}
+
+/// The same, if the number of its field is this one.
+#[inline(always)]
+fn is_short_value(payload: &[u8], number: u32) -> bool
+    ensures { IsTrue result → (value : AValue) × IsCanonicalValue payload.now value }
+{
     match short_field_at(payload, 0) {
-        Some((field, after)) => after == payload.len() && is_value(field.number, field.payload),
+        Some((field, after)) => {
+            field.number == number && after == payload.len() && is_value(number, field.payload)
+        }
         None => false,
     }
 }

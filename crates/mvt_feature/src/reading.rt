@@ -14,7 +14,7 @@ use crate::feature::Feature;
 use crate::feature_fields::{FeatureFields, read_fields};
 use crate::message_error::MessageError;
 use crate::scratch::Scratch;
-use mvt_attrs::{LayerKeys, Value, judge_tags, resolve_in};
+use mvt_attrs::{LayerKeys, Value, judge_tags, lend_texts, resolve_in};
 use mvt_base::{Items, Text};
 use mvt_geometry::{GeometryVisitor, draw_geometry, judge_geometry, read_geometry};
 use std::alloc::Global;
@@ -40,7 +40,8 @@ pub fn read_feature(
     ensures err { IfErr result (λ error. Reports (fault_of error)
         (feature_fault payload.now payload_at keys.now values.now)) }
 {
-    let mut keys = LayerKeys::new(alloc, keys);
+    let lent = lend_texts(alloc, keys)?;
+    let mut keys = LayerKeys::new(alloc, &lent);
     let mut scratch = Scratch::new(alloc);
     read_feature_in(alloc, payload, payload_at, &mut keys, values, &mut scratch)
 }
@@ -116,34 +117,12 @@ pub fn draw_feature<V: GeometryVisitor>(
     Ok(known)
 }
 
-/// Whether a payload is a feature, in a layer with these keys and this number of values.
-///
-/// Nothing is built, and what the scratch holds afterwards means nothing.
+/// What the fields of a feature's payload say besides its tags and its integers, in a layer with
+/// these keys and this number of values: tags and integers are judged, and left in the scratch.
 ///
 /// # Errors
 ///
-/// As `read_feature`.
-pub fn judge_feature(
-    alloc: Global,
-    payload: &[u8],
-    payload_at: u64,
-    keys: &mut LayerKeys<'_>,
-    values: usize,
-    scratch: &mut Scratch,
-) -> Result<(), MessageError>
-    requires { payload_at + length payload.now < 2 ^ 64 }
-    ensures ok { OnOk result ((held : List Value) → length held ≡ values
-        → feature_fault payload.now payload_at keys.old held ≡ None) }
-    ensures err { IfErr result (λ error. (held : List Value) → length held ≡ values
-        → Reports (fault_of error) (feature_fault payload.now payload_at keys.old held)) }
-    ensures memory { IsErrOf result MessageError.Memory → ListsNumbers payload.now payload_at }
-    ensures same { keys.new ≡ keys.old }
-{
-    judge_into_scratch(alloc, payload, payload_at, keys, values, scratch)?;
-    Ok(())
-}
-
-/// The same, and what its fields say besides the tags and the integers.
+/// As `read_feature`; what the scratch holds then means nothing.
 pub(crate) fn judge_into_scratch(
     alloc: Global,
     payload: &[u8],

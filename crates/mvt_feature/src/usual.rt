@@ -13,7 +13,7 @@ ghost use Rattle.mvt_feature.specs.Listing.{ListsNumbers};
 use crate::feature_fields::FeatureFields;
 use crate::message_error::MessageError;
 use crate::ordered_feature::parts_in_any_order;
-use crate::reading::judge_feature;
+use crate::reading::judge_into_scratch;
 use crate::scratch::Scratch;
 use mvt_attrs::{LayerKeys, NoTags, PackedTags, TagVisitor, judge_packed};
 use mvt_geometry::{GeometryVisitor, Ignore, draw_packed};
@@ -63,13 +63,13 @@ pub fn draw_usual_feature<V: GeometryVisitor>(
 
 /// Whether a payload is a feature, in a layer with these keys and this number of values.
 ///
-/// It answers what `judge_feature` does; the tags and the integers of most features are judged in
-/// place.
+/// Nothing is built, and what the scratch holds afterwards means nothing. The tags and the integers
+/// of most features are judged in place.
 ///
 /// # Errors
 ///
 /// As [`read_feature`](crate::read_feature).
-pub fn check_feature(
+pub fn judge_feature(
     alloc: Global,
     payload: &[u8],
     payload_at: u64,
@@ -95,7 +95,7 @@ pub fn check_feature(
         values,
     )?;
     if found.is_none() {
-        judge_feature(alloc, payload, payload_at, keys, values, scratch)?;
+        judge_into_scratch(alloc, payload, payload_at, keys, values, scratch)?;
     }
     Ok(())
 }

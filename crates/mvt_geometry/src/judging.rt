@@ -159,7 +159,7 @@ fn judge_ring(integers: &[u32], pen: Pen) -> Result<(Pen, i128), Fault>
     let count = judge_header(Kind::Polygon, Command::LineTo, integers, first.at)?;
     let begin = first.at + 1;
     let end = begin + 2 * count;
-    let (last, path) = judge_edges(begin, first.cursor, &integers[begin..end])?;
+    let (last, path) = judge_edges(true, begin, first.cursor, &integers[begin..end])?;
     judge_header(Kind::Polygon, Command::ClosePath, integers, end)?;
     let area = path + cross(last, first.cursor);
     if pen.at == 0 && area < 0 {
@@ -194,7 +194,7 @@ fn judge_command(kind: Kind, command: Command, integers: &[u32], pen: Pen) -> Re
     let count = judge_header(kind, command, integers, pen.at)?;
     let begin = pen.at + 1;
     let end = begin + 2 * count;
-    let cursor = judge_pairs(command.is_line(), begin, pen.cursor, &integers[begin..end])?;
+    let (cursor, _) = judge_edges(command.is_line(), begin, pen.cursor, &integers[begin..end])?;
     Ok(Pen { at: end, cursor })
 }
 
@@ -242,59 +242,50 @@ fn judge_header(kind: Kind, command: Command, integers: &[u32], at: usize) -> Re
     Ok(count)
 }
 
-/// The cursor after pairs, the first of which is numbered `begin`.
-fn judge_pairs(is_line: bool, begin: usize, from: Point, parameters: &[u32]) -> Result<Point, Fault>
+/// The cursor after pairs, the first of which is numbered `begin`, and what the edges to it add to
+/// twice an area.
+#[inline(always)]
+fn judge_edges(
+    is_line: bool,
+    begin: usize,
+    from: Point,
+    parameters: &[u32],
+) -> Result<(Point, i128), Fault>
     requires { begin + length parameters.now < 2 ^ 64 }
     ensures ok { OnOk result (first
         (each (pair_rules is_line begin from) [] (pairs_of parameters.now)) ≡ None) }
-    ensures cursor { IfOk result (λ to. to ≡ moved from (pairs_of parameters.now)) }
-    ensures err { IfErr result (λ f.
-        first (each (pair_rules is_line begin from) [] (pairs_of parameters.now)) ≡ Some
-        (f.index, f.cause)) }
-{
-    let mut x = from.x;
-    let mut y = from.y;
-    let mut rest = parameters;
-    while let [dx, dy, others @ ..] = rest {
-        let at = begin + (parameters.len() - rest.len());
-        if let Some(fault) = step_fault(is_line, at, Point { x, y }, *dx, *dy) {
-            return Err(fault);
-        }
-        x += unzigzag32(*dx);
-        y += unzigzag32(*dy);
-        rest = others;
-    }
-    Ok(Point { x, y })
-}
-
-/// The cursor after pairs of a ring, and what its edges add to twice the area.
-fn judge_edges(begin: usize, from: Point, parameters: &[u32]) -> Result<(Point, i128), Fault>
-    requires { begin + length parameters.now < 2 ^ 64 }
-    ensures ok { OnOk result (first (each (pair_rules true begin from) [] (pairs_of parameters.now))
-        ≡ None) }
     ensures cursor { IfOk result (λ r. r.0 ≡ moved from (pairs_of parameters.now)) }
     ensures area { IfOk result (λ r. r.1 ≡ edges from (positions from (pairs_of parameters.now))) }
     ensures small { IfOk result (λ r. unsigned_abs r.1 ≤ length parameters.now * 2 ^ 62) }
     ensures err { IfErr result (λ f.
-        first (each (pair_rules true begin from) [] (pairs_of parameters.now)) ≡ Some
+        first (each (pair_rules is_line begin from) [] (pairs_of parameters.now)) ≡ Some
         (f.index, f.cause)) }
 {
-    let mut x = from.x;
-    let mut y = from.y;
+    let mut cursor = from;
     let mut area = 0;
     let mut rest = parameters;
     while let [dx, dy, others @ ..] = rest {
         let at = begin + (parameters.len() - rest.len());
-        if let Some(fault) = step_fault(true, at, Point { x, y }, *dx, *dy) {
+        if let Some(fault) = step_fault(is_line, at, cursor, *dx, *dy) {
             return Err(fault);
         }
-        let before = Point { x, y };
-        x += unzigzag32(*dx);
-        y += unzigzag32(*dy);
-        area += cross(before, Point { x, y });
+        let next = moved_by(cursor, *dx, *dy);
+        area += cross(cursor, next);
+        cursor = next;
         rest = others;
     }
-    Ok((Point { x, y }, area))
+    Ok((cursor, area))
+}
+
+/// The point that a pair leads to, where that is in range.
+#[inline(always)]
+pub(crate) fn moved_by(from: Point, dx: u32, dy: u32) -> Point
+    requires { let d : Pair = record { dx = dx; dy = dy } in IsPlace (stepped from d) }
+    ensures { let d : Pair = record { dx = dx; dy = dy } in result ≡ stepped from d }
+{
+    let x = from.x + unzigzag32(dx);
+    let y = from.y + unzigzag32(dy);
+    Point { x, y }
 }
 
 /// The first rule that a pair breaks, whose dX is numbered `at`.

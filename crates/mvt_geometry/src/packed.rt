@@ -10,10 +10,10 @@ ghost use Rattle.mvt_geometry.specs.Inner.Telling.{SpellsFront, WasTold, IsPair,
 
 use crate::area::cross;
 use crate::command::Command;
-use crate::judging::{ORIGIN, step_fault};
+use crate::judging::{ORIGIN, moved_by, step_fault};
 use crate::shape::{Kind, Point};
 use crate::visiting::{GeometryVisitor, Ring, begins_polygon, is_same};
-use mvt_wire::{packed_front, unzigzag32};
+use mvt_wire::packed_front;
 use std::alloc::AllocError;
 
 /// Passes the geometry of this type that the integers of a packed field draw to a visitor, and
@@ -307,7 +307,5 @@ fn point_front(from: Point, is_line: bool, bytes: &[u8]) -> Option<(Point, &[u8]
     if step_fault(is_line, 0, from, dx, dy).is_some() {
         return None;
     }
-    let x = from.x + unzigzag32(dx);
-    let y = from.y + unzigzag32(dy);
-    Some((Point { x, y }, after))
+    Some((moved_by(from, dx, dy), after))
 }

@@ -12,10 +12,9 @@ ghost use Rattle.mvt_geometry.specs.Inner.Grouping.{opened, polygons_of};
 use crate::area::twice_area;
 use crate::command::Command;
 use crate::fault::GeometryError;
-use crate::judging::{ORIGIN, judge};
+use crate::judging::{ORIGIN, judge, moved_by};
 use crate::shape::{Geometry, Kind, Point, Polygon};
 use mvt_base::Items;
-use mvt_wire::unzigzag32;
 use std::alloc::{AllocError, Global};
 use std::mem;
 
@@ -205,9 +204,7 @@ fn push_path(points: &mut Vec<Point>, from: Point, parameters: &[u32]) -> Result
     let mut cursor = from;
     let mut rest = parameters;
     while let [dx, dy, others @ ..] = rest {
-        let x = cursor.x + unzigzag32(*dx);
-        let y = cursor.y + unzigzag32(*dy);
-        cursor = Point { x, y };
+        cursor = moved_by(cursor, *dx, *dy);
         points.push(cursor)?;
         rest = others;
     }

@@ -19,9 +19,8 @@ ghost use Rattle.mvt_geometry.specs.Inner.Grouping.{parts_of_rings};
 use crate::area::cross;
 use crate::command::Command;
 use crate::fault::GeometryError;
-use crate::judging::{ORIGIN, judge};
+use crate::judging::{ORIGIN, judge, moved_by};
 use crate::shape::{Kind, Point};
-use mvt_wire::unzigzag32;
 use std::alloc::AllocError;
 
 /// An object that receives a geometry as it is read: each point of a part, and then the part's end.
@@ -263,9 +262,7 @@ fn draw_path<V: GeometryVisitor>(
     let mut area = 0;
     let mut rest = parameters;
     while let [dx, dy, others @ ..] = rest {
-        let x = cursor.x + unzigzag32(*dx);
-        let y = cursor.y + unzigzag32(*dy);
-        let next = Point { x, y };
+        let next = moved_by(cursor, *dx, *dy);
         visitor.visit_point(next)?;
         area += cross(cursor, next);
         cursor = next;

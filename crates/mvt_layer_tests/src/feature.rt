@@ -3,7 +3,7 @@ ghost use Rattle.mvt_geometry.specs.Valid.{IsValid};
 
 use crate::expect::{expect, expect_eq};
 use crate::support::{KEYS, feature_with, made_with, point, repeated_keys};
-use mvt_attrs::{Attribute, LayerEntries, LayerKeys, PoolError, Value};
+use mvt_attrs::{Attribute, LayerEntries, LayerKeys, PoolError, Value, lend_texts};
 use mvt_base::{Items, Text};
 use mvt_feature::*;
 use mvt_geometry::Geometry;
@@ -15,7 +15,7 @@ fn value_of(alloc: Global, payload: &[u8]) -> Result<Value, MessageError> {
     read_value(alloc, payload, 16, 14)
 }
 
-pub(crate) fn key(rt: &(impl Abort + AllocGlobal)) -> Text {
+fn key(rt: &(impl Abort + AllocGlobal)) -> Text {
     Text::from_str(rt.alloc(), "k").expect(rt, "a key")
 }
 
@@ -27,7 +27,7 @@ pub(crate) fn refused_for(rt: &(impl Abort + AllocGlobal), payload: &[u8]) -> Op
     error.map(place_of)
 }
 
-fn judged_over(alloc: Global, keys: &[Text], payload: &[u8]) -> Result<(), MessageError> {
+fn judged_over(alloc: Global, keys: &[&str], payload: &[u8]) -> Result<(), MessageError> {
     let mut keys = LayerKeys::new(alloc, keys);
     let mut scratch = Scratch::new(alloc);
     let judged = judge_feature(alloc, payload, 9, &mut keys, 1, &mut scratch);
@@ -38,9 +38,7 @@ fn judged_over(alloc: Global, keys: &[Text], payload: &[u8]) -> Result<(), Messa
 
 // The same where it is only judged.
 fn judged_for(rt: &(impl Abort + AllocGlobal), payload: &[u8]) -> Option<(u64, u32)> {
-    let keys = [key(rt)];
-    let judged = judged_over(rt.alloc(), &keys, payload);
-    drop(keys);
+    let judged = judged_over(rt.alloc(), &["k"], payload);
     judged.err().map(place_of)
 }
 
@@ -268,7 +266,9 @@ fn expect_read(rt: &(impl Abort + AllocGlobal), payload: &[u8], keys: &[Text], f
     let found = read_feature(rt.alloc(), payload, 9, keys, &[Value::Uint(5)]);
     expect!(rt; found.as_ref() == Ok(feature));
     drop(found);
-    expect_eq!(rt; judged_over(rt.alloc(), keys, payload), Ok(()));
+    let lent = lend_texts(rt.alloc(), keys).expect(rt, "memory");
+    expect_eq!(rt; judged_over(rt.alloc(), &lent, payload), Ok(()));
+    drop(lent);
 }
 
 // What is written of a feature is read as it.
@@ -333,12 +333,7 @@ fn is_text_refused(rt: &(impl Abort + AllocGlobal)) -> bool {
 const POINT_OF_ID: [u8; 9] = [0x08, 0x07, 0x18, 0x01, 0x22, 0x03, 0x09, 0x32, 0x22];
 
 fn is_judge_refused(rt: &(impl Abort + AllocGlobal)) -> bool {
-    let Ok(key) = Text::from_str(rt.alloc(), "k") else {
-        return true;
-    };
-    let keys = [key];
-    let judged = judged_over(rt.alloc(), &keys, &POINT_OF_ID);
-    drop(keys);
+    let judged = judged_over(rt.alloc(), &["k"], &POINT_OF_ID);
     expect!(rt; judged == Ok(()) || judged == Err(MessageError::Memory));
     judged.is_err()
 }

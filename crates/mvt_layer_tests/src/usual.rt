@@ -1,8 +1,8 @@
 //! Features that are judged straight from their bytes, beside the same read by their fields.
 use crate::expect::expect_eq;
-use crate::feature::{key, place_of, refused_for};
+use crate::feature::{place_of, refused_for};
 use mvt_attrs::LayerKeys;
-use mvt_feature::{Scratch, check_feature};
+use mvt_feature::{Scratch, judge_feature};
 use std::process::Abort;
 
 /// A polygon with an id and tags, a line without, points of two packed pieces, a point whose type
@@ -27,13 +27,11 @@ const FEATURES: [&[u8]; 5] = [
 /// What a feature's payload, which begins at 9, is refused for where it is judged straight from its
 /// bytes, with the key `k` and one value.
 fn checked_for(rt: &(impl Abort + AllocGlobal), payload: &[u8]) -> Option<(u64, u32)> {
-    let texts = [key(rt)];
-    let mut keys = LayerKeys::new(rt.alloc(), &texts);
+    let mut keys = LayerKeys::new(rt.alloc(), &["k"]);
     let mut scratch = Scratch::new(rt.alloc());
-    let checked = check_feature(rt.alloc(), payload, 9, &mut keys, 1, &mut scratch);
+    let checked = judge_feature(rt.alloc(), payload, 9, &mut keys, 1, &mut scratch);
     drop(scratch);
     drop(keys);
-    drop(texts);
     checked.err().map(place_of)
 }
 

@@ -69,7 +69,7 @@ fn payload(
     let integers = drawing(alloc)?;
     let mut writer = LayerWriter::new(alloc);
     add(alloc, &mut writer, values(alloc, size, different)?, way)?;
-    writer.add_keys(&[Text::from_str(alloc, "key")?])?;
+    writer.add_keys(&["key"])?;
     let mut scratch = Scratch::new(alloc);
     for value in used {
         let tags = [0, *value];

@@ -14,7 +14,6 @@ use crate::finding::Finding;
 use crate::geometry_linting::GeometryFinding;
 use crate::linting::{is_large, is_large_id, push_if};
 use mvt_attrs::LayerKeys;
-use mvt_base::Text;
 use mvt_feature::{Scratch, ValueRef, read_value_ref};
 use mvt_message::{LayerVisitor, MessageError};
 use std::alloc::{AllocError, Global};
@@ -93,7 +92,7 @@ impl LayerVisitor for LayerFindings {
         Ok(())
     }
 
-    fn visit_keys(&mut self, _: Global, _: &[Text], _: usize) -> Result<(), AllocError> {
+    fn visit_keys(&mut self, _: Global, _: &[&str], _: usize) -> Result<(), AllocError> {
         Ok(())
     }
 

@@ -9,7 +9,6 @@ use crate::note::Note;
 use crate::noting::note_id;
 use crate::ring_noting::RingNotes;
 use mvt_attrs::LayerKeys;
-use mvt_base::Text;
 use mvt_feature::{Scratch, judge_value};
 use mvt_geometry::{GeometryVisitor, Point, Ring};
 use mvt_message::{FeatureFields, FeatureVisitor, LayerVisitor, MessageError};
@@ -83,7 +82,7 @@ impl LayerVisitor for LayerNotes {
         judge_value(payload, payload_at, tag_at)
     }
 
-    fn visit_keys(&mut self, _: Global, _: &[Text], _: usize) -> Result<(), AllocError> {
+    fn visit_keys(&mut self, _: Global, _: &[&str], _: usize) -> Result<(), AllocError> {
         Ok(())
     }
 

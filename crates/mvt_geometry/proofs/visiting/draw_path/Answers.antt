@@ -1,11 +1,9 @@
-use Rattle.std.proofs.Common.{rules, arith, ◌≡◌, ◌≤◌, ◌<◌, ◌-◌, ◌^◌, ◌∷◌, [], ◌++◌, length, ℤ, ◌+ℤ◌, ap, ap₂, subst, ◌∙◌, to_z, of_z, w32}
+use Rattle.std.proofs.Common.{rules, arith, ◌≡◌, ◌≤◌, ◌<◌, ◌-◌, ◌^◌, ◌∷◌, [], ◌++◌, length, ◌+ℤ◌, ap, subst, ◌∙◌, to_z, of_z}
 use Rattle.std.specs.Int.{w128}
-use Rattle.mvt_geometry.specs.declared.shape.Point.{Point}
 use Rattle.mvt_geometry.specs.Commands.{positions}
 use Rattle.mvt_geometry.proofs.AreaLemmas.{sum_fits, summed}
 use Rattle.mvt_geometry.proofs.BuildLemmas.{next_place}
 use Rattle.mvt_geometry.proofs.DrawLemmas.{one_more, passes}
-use Rattle.mvt_geometry.proofs.PathLemmas.{moved_number}
 use Rattle.mvt_geometry.proofs.WalkLemmas.{first_pair}
 use Rattle.mvt_geometry.proofs.visiting.draw_path.Goals as goal
 
@@ -24,13 +22,7 @@ loop-rest-preserved g c =
     let w = l.invariant.1 in
     let two : 2 ≤ length l.rest.now = omega (arith, c.in-len2-up.len_at_least) in
     let place = next_place l.cursor l.rest.now two w.places in
-    let same_x : to_z w32 (of_z w32 l.cursor.x) ≡ l.cursor.x = search rules in
-    let same_y : to_z w32 (of_z w32 l.cursor.y) ≡ l.cursor.y = search rules in
-    let same_dx : to_z w32 (of_z w32 c.unzigzag32.result) ≡ c.unzigzag32.result = search rules in
-    let same_dy : to_z w32 (of_z w32 c.unzigzag32-in-len2-up.result) ≡ c.unzigzag32-in-len2-up.result = search rules in
-    let x = moved_number l.cursor.x c.unzigzag32.result _ _ _ same_x same_dx c.unzigzag32.ensures place.0 in
-    let y = moved_number l.cursor.y c.unzigzag32-in-len2-up.result _ _ _ same_y same_dy c.unzigzag32-in-len2-up.ensures place.1 in
-    let to_is = ap₂ (λ (a b : ℤ). let p : Point = record { x = a; y = b } in p) x y in
+    let to_is = c.moved_by-next.ensures in
     let few : length done < 2 ^ 64 - 1 = omega (arith, w.used, c.requires.few, two) in
     let same : to_z w128 (of_z w128 c.cross-area.result) ≡ c.cross-area.result = search rules in
     let sum = summed (to_z w128 l.area-bits) c.cross-area.result _ (length done) w.small c.cross-area.ensures.small few same in (
