@@ -26,7 +26,7 @@ use Rattle.mvt_message.specs.declared.item.Item.TheVariants.{Layer}
 use Rattle.mvt_message.specs.declared.numbers.layer.TheConstants.{NAME, FEATURES, KEYS, VALUES, VERSION}
 use Rattle.mvt_message.specs.Around.{IsAround}
 use Rattle.mvt_message.specs.CanonicalItems.{canonical_item, keys_of, values_of, head_fields, feature_field, key_field, value_field, extent_fields}
-use Rattle.mvt_message.specs.Copying.{core_with, IsCoreOf, IsCanonicalLayer, IsCopied, AreFieldsFrom, AreKeysFrom, ArePayloadsFrom, AreValuesFrom, AreFeaturesFrom, lent_field}
+use Rattle.mvt_message.specs.Copying.{core_with, IsCoreOf, IsCanonicalLayer, IsCopied, AreFieldsFrom, AreKeysFrom, ArePayloadsFrom, AreValuesFrom, AreFeaturesFrom, lent_field, field_of}
 use Rattle.mvt_message.specs.Items.{IsItem}
 use Rattle.mvt_message.specs.ValidItems.{ValidItem, ValidLayer}
 use Rattle.mvt_message.proofs.CanonicalLemmas.{features_held, layer_around, layer_parts}
@@ -268,29 +268,30 @@ len_step g ys i {y} start old new at was more =
     omega (arith, size, same)
 
 -- one more field of those that no feature uses
-pub unused_step : (number used : ℕ) (payloads : List (Bor (List ℕ))) (i at end size : ℕ) (rest : List (Bor (List ℕ)))
-    (default : Bor (List ℕ))
-    → rest ≡ drop used payloads → i < length rest
-    → ((d : List ℕ) → length d ≡ length (get_or rest i default).now → size ≡ length (short_field number (bytes d)))
-    → length (spelled (map (lent_field number) payloads)) ≤ end → at + length (spelled (map (lent_field number) (take i rest))) ≡ end
-    → (size ≤ at) × ((at - size) + length (spelled (map (lent_field number) (take (i + 1) rest))) ≡ end)
-unused_step number used payloads i at end size rest default rest_is within field room so_far =
-    let done = length (spelled (map (lent_field number) (take i rest))) in
+pub unused_step : {A : Type 0} (content : A → List ℕ) (number used : ℕ) (payloads : List A) (i at end size : ℕ) (rest : List A)
+    (entry : A)
+    → rest ≡ drop used payloads → i < length rest → entry ≡ get_or rest i entry
+    → ((d : List ℕ) → length d ≡ length (content entry) → size ≡ length (short_field number (bytes d)))
+    → length (spelled (map (field_of content number) payloads)) ≤ end
+    → at + length (spelled (map (field_of content number) (take i rest))) ≡ end
+    → (size ≤ at) × ((at - size) + length (spelled (map (field_of content number) (take (i + 1) rest))) ≡ end)
+unused_step {A} content number used payloads i at end size rest entry rest_is within is_entry field room so_far =
+    let done = length (spelled (map (field_of content number) (take i rest))) in
     let step =
-    len_step (lent_field number) rest i 0 done (done + length (short_field number (bytes (get_or rest i default).now)))
-    (sym (slice_get-get_or rest i default within)) (sym (zero-add done)) refl in
-    let is = field (get_or rest i default).now refl in
-    let more = lent_length number (i + 1) rest in
-    let all = lent_length number used payloads in
-    let same = ap (λ l. length (spelled (map (lent_field number) l))) rest_is in
+    len_step (field_of content number) rest i 0 done (done + length (short_field number (bytes (content entry))))
+    (ap Some is_entry ∙ sym (slice_get-get_or rest i entry within)) (sym (zero-add done)) refl in
+    let is = field (content entry) refl in
+    let more = all_length (i + 1) rest in
+    let all = all_length used payloads in
+    let same = ap (λ l. length (spelled (map (field_of content number) l))) rest_is in
     (omega (arith, step, is, more, all, same), omega (arith, step, is))
   where
-    lent_length : (number n : ℕ) (bs : List (Bor (List ℕ)))
-        → length (spelled (map (lent_field number) bs))
-        ≡ length (spelled (map (lent_field number) (take n bs))) + length (spelled (map (lent_field number) (drop n bs)))
-    lent_length number n bs =
-        ap length (split_spelled (lent_field number) n bs)
-        ∙ length-append (spelled (map (lent_field number) (take n bs))) (spelled (map (lent_field number) (drop n bs)))
+    all_length : (n : ℕ) (xs : List A)
+        → length (spelled (map (field_of content number) xs))
+        ≡ length (spelled (map (field_of content number) (take n xs))) + length (spelled (map (field_of content number) (drop n xs)))
+    all_length n xs =
+        ap length (split_spelled (field_of content number) n xs)
+        ∙ length-append (spelled (map (field_of content number) (take n xs))) (spelled (map (field_of content number) (drop n xs)))
 
 -- two parts of a body
 cut : (body f k more_k v more_v : List ℕ) (features_at keys_at values_at end_at keys_end values_end : ℕ)

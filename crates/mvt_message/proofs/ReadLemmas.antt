@@ -6,6 +6,7 @@ use Rattle.std.specs.Result.{is_err}
 use Rattle.std.proofs.lemmas.Bool.{eq-eqb, eqb-true, ne_eqb}
 use Rattle.std.proofs.lemmas.List.{map-append}
 use Rattle.std.proofs.lemmas.List.Elements.{filter-append}
+use Rattle.mvt_attrs.specs.FirstUses.{lent}
 use Rattle.mvt_base.specs.Reports.{Reports}
 use Rattle.mvt_base.specs.Related.{AreRelated}
 use Rattle.mvt_base.specs.Rules.{Rules, each, first}
@@ -226,7 +227,7 @@ header_forms_clean x false test clean = (
 )
 
 pub header_start : (payload_at : ℕ) (header : LayerHeader) → header.version ≡ None → option_copied header.name ≡ None
-    → header.extent ≡ 4096 → header.keys.items ≡ [] → header.features ≡ 0 → IsLayerHeader payload_at [] header
+    → header.extent ≡ 4096 → lent header.keys.items ≡ [] → header.features ≡ 0 → IsLayerHeader payload_at [] header
 header_start payload_at header version name extent keys features = record {
   version = (refl, version);
   clean = refl;
@@ -240,7 +241,7 @@ pub header_step : {payload_at : ℕ} {done : List Entry} {old : LayerHeader} (ne
     → IsLayerHeader payload_at done old → first (number_rules header_forms x.number x.content) ≡ None
     → new.version ≡ version_after old.version x.number x.content
     → option_copied new.name ≡ name_after (option_copied old.name) x.number x.content
-    → new.extent ≡ extent_after old.extent x.number x.content → new.keys.items ≡ old.keys.items ++ keys_at x.number x.content
+    → new.extent ≡ extent_after old.extent x.number x.content → lent new.keys.items ≡ lent old.keys.items ++ keys_at x.number x.content
     → new.features ≡ features_after old.features x.number → IsLayerHeader payload_at (done ++ x ∷ []) new
 header_step {payload_at} {done} new x so_far clean version name extent keys features =
     let forms = header_forms_clean x (x.number == VERSION) refl clean in
@@ -423,7 +424,7 @@ pub record IsClean (payload_at : ℕ) (xs : List Entry) (name : List ℕ) (keys 
   pub values_are : AreRelated HoldsValue (only VALUES xs) values
 
 pub front_clean : {payload_at : ℕ} {xs : List Entry} {header : LayerHeader} {name : List ℕ} {keys : List (List ℕ)} (values : List Value)
-    → IsLayerHeader payload_at xs header → option_copied header.name ≡ Some name → keys ≡ header.keys.items
+    → IsLayerHeader payload_at xs header → option_copied header.name ≡ Some name → keys ≡ lent header.keys.items
     → AreValuesSoFar payload_at xs values → IsClean payload_at xs name keys values
 front_clean values head name keys so_far = record {
   forms = head.clean;

@@ -91,10 +91,10 @@ module _ (body : List ℕ) (front : Front) (held : List Value) (small : length b
   held_apart apart = values_apart front.values.items held are.are apart
 
 -- the keys of a front are few
-pub few_keys : (body : List ℕ) (front : Front) (keys : List (List ℕ)) → length body ≤ LIMIT → IsFrontOf body front
-    → keys ≡ lent front.keys.items → AllByRecursion IsUtf8 keys → length keys < LIMIT
-few_keys body front keys small is are texts =
-    let from = keys_are_from body front.keys_at front.values_at front.keys.items keys is.keys are texts in
+pub few_keys : (body : List ℕ) (front : Front) → length body ≤ LIMIT → IsFrontOf body front → length (lent front.keys.items) < LIMIT
+few_keys body front small is =
+    let keys = lent front.keys.items in
+    let from = keys_are_from body front.keys_at front.values_at front.keys.items keys is.keys refl is.texts in
     let within = part_within body (spelled (map key_field keys)) (drop front.values_at body) front.keys_at from.1 in
     let count = count_bytes KEYS (λ key. key) keys in
     omega (arith, within, small, count)
@@ -158,8 +158,8 @@ module _ (keys : List (List ℕ)) (values : List Value) (features : List Feature
 pub reached_behind : (body : List ℕ) (part : Part) → IsPartOf body part → IsTrue part.front.is_apart → part.features_at ≤ part.reached.at
 reached_behind body part is apart =
     let from = is.from apart in
-    let end = fields_end body (spelled (map (feature_field part.keys.items is.held) from.features)) part.features_at part.reached.at
-    from.fields is.start_within is.at_within in
+    let end = fields_end body (spelled (map (feature_field (lent part.front.keys.items) is.held) from.features)) part.features_at
+    part.reached.at from.fields is.start_within is.at_within in
     omega (arith, end)
 
 -- the canonical features are copied as they stand
@@ -167,7 +167,7 @@ pub ordered_start : (body : List ℕ) (part : Part) (out : List ℕ) → length 
     → IsTrue part.front.is_apart → out ≡ take (part.reached.at - part.features_at) (drop part.features_at body)
     → IsOrderedUpTo body part part.reached.at part.reached.used out
 ordered_start body part out small is apart copied =
-    let keys = part.keys.items in
+    let keys = lent part.front.keys.items in
     let held = is.held in
     let from = is.from apart in
     let features = from.features in
@@ -180,7 +180,7 @@ ordered_start body part out small is apart copied =
     let whole : out ≡ own =
     copied ∙ ap₂ (λ n b. take n b) long from.fields ∙ take-append_seam own (drop at body) in
     let within = part_within body own (drop at body) start from.fields in
-    let keys_few = few_keys body part.front keys small is.is_front is.keys_are is.texts in
+    let keys_few = few_keys body part.front small is.is_front in
     let values_few = few_values body part.front held small is.held_are in
     record {
       held = held;
@@ -191,7 +191,7 @@ ordered_start body part out small is apart copied =
         fields = from.fields ∙ ap (λ fs. spelled fs ++ drop at body) (sym (fields_mapped keys held features));
         are = related_mapped (feature_bytes keys held) (λ p f. IsFeatureOf p keys held f) features
             (features_read keys held features (omega (arith, keys_few)) (omega (arith, values_few)) from.valid
-            (stay_in keys held features part.reached.used from.keys_are from.values_are from.valid is.texts is.held_are.valid)
+            (stay_in keys held features part.reached.used from.keys_are from.values_are from.valid is.is_front.texts is.held_are.valid)
             (small_by FEATURES (feature_bytes keys held) features (omega (arith, within, small))));
         written = whole;
         keys_are = from.keys_are;
@@ -241,8 +241,8 @@ held_count body front held are =
 
 -- features that were put in order are written, whatever features follow
 pub ordered_written : (body : List ℕ) (part : Part) (at : ℕ) (used : ℕ × ℕ) (out : List ℕ) (w : LayerWriter)
-    → (is : IsOrderedUpTo body part at used out) → HasUses w.uses part.keys.items is.held
-    → used_of w.uses.keys ≡ take used.0 part.keys.items → used_of w.uses.values ≡ take used.1 is.held → w.features.items ≡ out
+    → (is : IsOrderedUpTo body part at used out) → HasUses w.uses (lent part.front.keys.items) is.held
+    → used_of w.uses.keys ≡ take used.0 (lent part.front.keys.items) → used_of w.uses.values ≡ take used.1 is.held → w.features.items ≡ out
     → IsWrittenUpTo body part at w
 ordered_written body part at used out w is uses used_keys used_values same =
     let o = is.ordered in
@@ -259,14 +259,14 @@ ordered_written body part at used out w is uses used_keys used_values same =
           keys_are = used_keys ∙ sym o.keys_are;
           values_are = used_values ∙ sym o.values_are;
           written = subst (AreWritten o.features) (sym (same ∙ o.written))
-              (stay_written part.keys.items is.held o.features used o.keys_are o.values_are);
+              (stay_written (lent part.front.keys.items) is.held o.features used o.keys_are o.values_are);
         };
       };
     }
 
 -- no feature is written yet
 pub written_none : (body : List ℕ) (part : Part) (w : LayerWriter) (is : IsPartOf body part) → part.front.is_apart ≡ false
-    → HasWritten part.keys.items is.held w [] → IsWrittenUpTo body part part.reached.at w
+    → HasWritten (lent part.front.keys.items) is.held w [] → IsWrittenUpTo body part part.reached.at w
 written_none body part w is twice written = record {
   held = is.held;
   held_are = is.held_are;
@@ -315,11 +315,11 @@ made part features = record { name = part.name.now; extent = part.extent; featur
 layer_of : (body : List ℕ) (part : Part) (held : List Value) (payloads : List (List ℕ)) (features : List Feature) → length body ≤ LIMIT
     → IsPartOf body part → AreHeld body part.front held
     → drop part.features_at body ≡ spelled (map payload_field payloads) ++ drop part.features_end body
-    → AreRelated (λ p f. IsFeatureOf p part.keys.items held f) payloads features → IsItem body (Layer (made part features))
+    → AreRelated (λ p f. IsFeatureOf p (lent part.front.keys.items) held f) payloads features → IsItem body (Layer (made part features))
 layer_of body part held payloads features few is held_are fields are = by_place is.placed
   where
     keys : List (List ℕ)
-    keys = part.keys.items
+    keys = lent part.front.keys.items
 
     own : List Plain
     own = map payload_field payloads
@@ -336,7 +336,7 @@ layer_of body part held payloads features few is held_are fields are = by_place 
 
     keys_stand : drop part.front.keys_at body ≡ spelled key_part ++ drop part.front.values_at body
     keys_stand =
-        (keys_are_from body part.front.keys_at part.front.values_at part.front.keys.items keys is.is_front.keys is.keys_are is.texts).1
+        (keys_are_from body part.front.keys_at part.front.values_at part.front.keys.items keys is.is_front.keys refl is.is_front.texts).1
 
     by_place : IsPlaced part is.start is.end → IsItem body (Layer (made part features))
     by_place (inl (start, behind, end)) =
@@ -345,14 +345,14 @@ layer_of body part held payloads features few is held_are fields are = by_place 
         part.front.end_at (is.around.begins ∙ ap (λ n. spelled is.around.head ++ drop n body) start)
         (fields ∙ ap (λ n. spelled own ++ drop n body) behind) keys_stand held_are.fields
         (ap (λ n. drop n body) (sym end) ∙ is.around.ends))
-        (omega (arith, few)) is.around.head_fit is.around.tail_fit is.around.alike is.around.text is.around.small is.texts
+        (omega (arith, few)) is.around.head_fit is.around.tail_fit is.around.alike is.around.text is.around.small is.is_front.texts
         held_are.valid features_held
     by_place (inr (start, behind, end)) =
         item_turned (λ p. p) payloads keys held (made part features) is.around.head is.around.tail body
         (in_a_row body is.around.head key_part value_part own is.around.tail part.front.keys_at part.front.values_at part.front.end_at
         part.features_end (is.around.begins ∙ ap (λ n. spelled is.around.head ++ drop n body) start) keys_stand held_are.fields
         (ap (λ n. drop n body) (sym behind) ∙ fields) (ap (λ n. drop n body) (sym end) ∙ is.around.ends))
-        (omega (arith, few)) is.around.head_fit is.around.tail_fit is.around.alike is.around.text is.around.small is.texts
+        (omega (arith, few)) is.around.head_fit is.around.tail_fit is.around.alike is.around.text is.around.small is.is_front.texts
         held_are.valid features_held
 
 -- the layer whose features were all written
@@ -387,11 +387,11 @@ layer_ordered body part used out keys_end values_end few is ordered keys_end_is 
     let features = o.features in
     let layer = made part features in
     let front = part.front in
-    let keys = part.keys.items in
+    let keys = lent part.front.keys.items in
     let held = ordered.held in
     let held_are = ordered.held_are in
     let item = layer_of body part held o.payloads features few is held_are o.fields o.are in
-    let key_part = used_keys_part body front.keys_at front.values_at keys_end used.0 front.keys.items keys is.is_front.keys is.keys_are
+    let key_part = used_keys_part body front.keys_at front.values_at keys_end used.0 front.keys.items keys is.is_front.keys refl
     is.is_front.keys_within keys_end_is in
     let value_part = used_values_part body front.values_at front.end_at values_end used.1 front.values.items held held_are.fields
     held_are.are is.is_front.keys.0 is.is_front.values.0 values_end_is in
@@ -410,16 +410,15 @@ layer_ordered body part used out keys_end values_end few is ordered keys_end_is 
 pub part_is : (WereTold : List Feature → Type 0) (body : List ℕ) (part : Part) (start end : ℕ)
     → IsAround body part.name.now part.extent start end → IsPlaced part start end → IsFrontOf body part.front
     → part.features_at ≤ length body → part.reached.at ≤ length body
-    → part.keys.items ≡ lent part.front.keys.items → AllByRecursion IsUtf8 part.keys.items
-    → ((held : List Value) → length held ≡ length part.front.values.items → AreReady part.keys.items held (0, 0)
-    → AreFeaturesFrom WereTold body part.features_at part.keys.items held part.reached.at part.reached.used)
+    → ((held : List Value) → length held ≡ length part.front.values.items → AreReady (lent part.front.keys.items) held (0, 0)
+    → AreFeaturesFrom WereTold body part.features_at (lent part.front.keys.items) held part.reached.at part.reached.used)
     → (part.front.is_apart ≡ false → part.reached.at ≡ part.features_at)
     → IsPartOf body part
-part_is WereTold body part start end around placed is_front start_within at_within keys_are texts from none =
+part_is WereTold body part start end around placed is_front start_within at_within from none =
     let (within, (held, fields, valid, are)) = is_front.values in
     let ready = λ (apart : IsTrue part.front.is_apart).
-    ready_values part.keys.items part.front.values.items held are (subst AreDistinct (sym keys_are) (is_front.keys_apart apart))
-    (is_front.values_apart apart) texts valid in
+    ready_values (lent part.front.keys.items) part.front.values.items held are (is_front.keys_apart apart)
+    (is_front.values_apart apart) is_front.texts valid in
     record {
       start = start;
       end = end;
@@ -428,12 +427,10 @@ part_is WereTold body part start end around placed is_front start_within at_with
       is_front = is_front;
       start_within = start_within;
       at_within = at_within;
-      keys_are = keys_are;
-      texts = texts;
       held = held;
       held_are = record { fields = fields; valid = valid; are = are };
-      from = λ apart. told_weaker WereTold (λ _. Unit {0}) body part.features_at part.reached.at part.keys.items held part.reached.used
-          (from held (ready apart).0 (ready apart).1) (λ fs told. tt);
+      from = λ apart. told_weaker WereTold (λ _. Unit {0}) body part.features_at part.reached.at (lent part.front.keys.items) held
+          part.reached.used (from held (ready apart).0 (ready apart).1) (λ fs told. tt);
       none = none;
     }
 

@@ -61,7 +61,11 @@ copied_core layer = layer.front.now ++ layer.values.now
 abbrev pub copied_payload : CopiedLayer → List ℕ
 copied_payload layer = spelled (head_fields layer.name.now) ++ (copied_core layer ++ spelled (extent_fields layer.extent))
 
--- a field of a payload that is lent
+-- a field of the bytes of an entry
+abbrev pub field_of : {A : Type 0} → (A → List ℕ) → ℕ → A → Plain
+field_of content number entry = plain number (bytes (content entry))
+
+-- that of a payload that is lent
 abbrev pub lent_field : ℕ → Bor (List ℕ) → Plain
 lent_field number payload = plain number (bytes payload.now)
 
@@ -91,6 +95,7 @@ AreValuesFrom body start payloads at =
 pub record IsFrontOf (body : List ℕ) (front : Front) : Type 0 where
   pub keys_within : front.keys_at ≤ length body
   pub keys : ArePayloadsFrom body front.keys_at KEYS front.keys.items front.values_at
+  pub texts : AllByRecursion IsUtf8 (lent front.keys.items)
   pub values : AreValuesFrom body front.values_at front.values.items front.end_at
   pub keys_apart : IsTrue front.is_apart → AreDistinct (lent front.keys.items)
   pub values_apart : IsTrue front.is_apart → AreDistinct (lent front.values.items)

@@ -5,6 +5,7 @@ use Rattle.mvt_base.specs.Reports.{Reports}
 use Rattle.mvt_base.specs.Related.{AreRelated}
 use Rattle.mvt_base.specs.Rules.{when, rows, each, first}
 use Rattle.mvt_attrs.specs.declared.value.Value.{Value}
+use Rattle.mvt_attrs.specs.FirstUses.{lent}
 use Rattle.mvt_wire.specs.Field.{Content, Entry}
 use Rattle.mvt_wire.specs.Split.{split}
 use Rattle.mvt_feature.specs.declared.cause.Cause.TheVariants.{NoVersion, NoName}
@@ -88,7 +89,7 @@ pub record IsLayerHeader (payload_at : ℕ) (fields : List Entry) (header : Laye
   pub clean : forms_fault payload_at fields ≡ None
   pub name_is : option_copied header.name ≡ name_in fields
   pub extent_is : header.extent ≡ extent_in fields
-  pub keys_are : header.keys.items ≡ keys_in fields
+  pub keys_are : lent header.keys.items ≡ keys_in fields
   pub features_are : header.features ≡ length (only FEATURES fields)
 
 -- the values, and the features, by the fields so far

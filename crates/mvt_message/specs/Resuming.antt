@@ -1,5 +1,5 @@
 -- A layer of which the first features are canonical, while the others are made so.
-use Rattle.std.specs.Prelude.{◌≡◌, ℕ, ◌+◌, ◌≤◌, ◌⊎◌, List, ◌++◌, length, map, take, drop, IsTrue, IsUtf8, false}
+use Rattle.std.specs.Prelude.{◌≡◌, ℕ, ◌+◌, ◌≤◌, ◌⊎◌, List, ◌++◌, length, map, take, drop, IsTrue, false}
 use Rattle.std.specs.List.{AllByRecursion}
 use Rattle.mvt_base.specs.Related.{AreRelated}
 use Rattle.mvt_attrs.specs.declared.value.Value.{Value}
@@ -60,12 +60,10 @@ pub record IsPartOf (body : List ℕ) (part : Part) : Type 0 where
   pub is_front : IsFrontOf body part.front
   pub start_within : part.features_at ≤ length body
   pub at_within : part.reached.at ≤ length body
-  pub keys_are : part.keys.items ≡ lent part.front.keys.items
-  pub texts : AllByRecursion IsUtf8 part.keys.items
   pub held : List Value
   pub held_are : AreHeld body part.front held
   pub from : IsTrue part.front.is_apart
-      → AreFeaturesFrom (λ _. Unit {0}) body part.features_at part.keys.items held part.reached.at part.reached.used
+      → AreFeaturesFrom (λ _. Unit {0}) body part.features_at (lent part.front.keys.items) held part.reached.at part.reached.used
   pub none : part.front.is_apart ≡ false → part.reached.at ≡ part.features_at
 
 -- features that were put in order: they use the first of the keys and of the values, in their order
@@ -84,13 +82,13 @@ pub record AreOrderedFrom (keys : List (List ℕ)) (values : List Value) (body :
 pub record IsOrderedUpTo (body : List ℕ) (part : Part) (at : ℕ) (used : ℕ × ℕ) (out : List ℕ) : Type 0 where
   pub held : List Value
   pub held_are : AreHeld body part.front held
-  pub ordered : AreOrderedFrom part.keys.items held body part.features_at at used out
+  pub ordered : AreOrderedFrom (lent part.front.keys.items) held body part.features_at at used out
 
 -- its features up to a place were written
 pub record IsWrittenUpTo (body : List ℕ) (part : Part) (at : ℕ) (w : LayerWriter) : Type 0 where
   pub held : List Value
   pub held_are : AreHeld body part.front held
-  pub read : AreFeaturesRead part.keys.items held body part.features_at at w
+  pub read : AreFeaturesRead (lent part.front.keys.items) held body part.features_at at w
 
 -- what is seen of a body that has this frame, whose canonical features were told
 abbrev pub IsSeen : (List Feature → Type 0) → List ℕ → Frame → Seen → Type 0

@@ -4,6 +4,7 @@ ghost use Rattle.std.specs.Option.{option_map};
 ghost use Rattle.mvt_base.specs.Reports.{Reports};
 ghost use Rattle.mvt_base.specs.Related.{AreRelated};
 ghost use Rattle.mvt_attrs.specs.declared.value.Value.{Value};
+ghost use Rattle.mvt_attrs.specs.FirstUses.{lent};
 ghost use Rattle.mvt_wire.specs.Field.{Entry, entry_of, content_of};
 ghost use Rattle.mvt_wire.specs.Fields.{bytes_size};
 ghost use Rattle.mvt_wire.specs.Split.{split};
@@ -19,7 +20,6 @@ use crate::numbers::layer;
 use crate::payload::bytes_of;
 use crate::visiting::LayerVisitor;
 use mvt_attrs::LayerKeys;
-use mvt_base::Text;
 use mvt_feature::{MessageError, Scratch};
 use mvt_wire::{Field, Fields};
 use std::alloc::Global;
@@ -31,7 +31,7 @@ pub(crate) fn visit_features<V: LayerVisitor>(
     visitor: &mut V,
     payload: &[u8],
     payload_at: u64,
-    keys: &[Text],
+    keys: &[&str],
     values: usize,
     features: usize,
 ) -> Result<(), MessageError>
@@ -40,21 +40,22 @@ pub(crate) fn visit_features<V: LayerVisitor>(
     requires whole { (split payload.now).rest ≡ [] }
     requires features { features ≡ length (only FEATURES (split payload.now).fields) }
     requires held { (given : V.Given) × (held : List Value) × (length held ≡ values)
-        × V.has_features given keys.now held visitor.old [] [] }
+        × V.has_features given (lent keys.now) held visitor.old [] [] }
     ensures ok { (given : V.Given) (held : List Value) → length held ≡ values
-        → V.has_features given keys.now held visitor.old [] []
-        → OnOk result (features_fault payload_at keys.now held (split payload.now).fields ≡ None) }
+        → V.has_features given (lent keys.now) held visitor.old [] []
+        → OnOk result (features_fault payload_at (lent keys.now) held (split payload.now).fields
+        ≡ None) }
     ensures features { (given : V.Given) (held : List Value) → length held ≡ values
-        → V.has_features given keys.now held visitor.old [] []
+        → V.has_features given (lent keys.now) held visitor.old [] []
         → OnOk result ((features : List AFeature)
-        × AreRelated (HoldsFeature keys.now held)
+        × AreRelated (HoldsFeature (lent keys.now) held)
         (only FEATURES (split payload.now).fields) features
-        × V.has_features given keys.now held visitor.new
+        × V.has_features given (lent keys.now) held visitor.new
         (payloads_in (split payload.now).fields) features) }
     ensures err { (given : V.Given) (held : List Value) → length held ≡ values
-        → V.has_features given keys.now held visitor.old [] []
+        → V.has_features given (lent keys.now) held visitor.old [] []
         → IfErr result (λ error. Reports (fault_of error)
-        (features_fault payload_at keys.now held (split payload.now).fields)) }
+        (features_fault payload_at (lent keys.now) held (split payload.now).fields)) }
 {
     let mut keys = LayerKeys::new(alloc, keys);
     let mut scratch = Scratch::new(alloc);

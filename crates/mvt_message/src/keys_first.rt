@@ -5,7 +5,7 @@ ghost use Rattle.mvt_message.specs.Around.{IsHead};
 ghost use Rattle.mvt_message.specs.Resuming.{IsPartOf};
 
 use crate::around::{Around, around_from, whole_of};
-use crate::layer_copying::{Part, Reached, after_features, end_of, front_from, texts_of};
+use crate::layer_copying::{Part, Reached, after_features, end_of, front_from};
 use crate::looking::counts_in_front;
 use mvt_feature::NotCanonical;
 use std::alloc::Global;
@@ -44,16 +44,12 @@ pub(crate) fn keys_first<'a>(
     let Some((name, extent)) = whole_of(&around) else {
         return Err(NotCanonical::Other);
     };
-    let Some(keys) = texts_of(alloc, &front.keys)? else {
-        return Err(NotCanonical::Other);
-    };
     Ok(Part {
         name,
         extent,
         features_at,
         features_end,
         front,
-        keys,
         reached: Reached {
             at: features_at,
             used: (0, 0),

@@ -10,7 +10,7 @@ ghost use Rattle.mvt_wire.specs.Spelling.{short_field, spelled};
 ghost use Rattle.mvt_feature.specs.Copying.{AreReady, IsCanonicalValue};
 ghost use Rattle.mvt_message.specs.declared.item.Item.{Item};
 ghost use Rattle.mvt_message.specs.declared.numbers.layer.TheConstants.{KEYS, VALUES};
-ghost use Rattle.mvt_message.specs.Copying.{AreFeaturesFrom, ArePayloadsFrom, AreValuesFrom, IsFrameOf, IsFrontOf, lent_field};
+ghost use Rattle.mvt_message.specs.Copying.{AreFeaturesFrom, ArePayloadsFrom, AreValuesFrom, IsFrameOf, IsFrontOf, field_of};
 ghost use Rattle.mvt_message.specs.Around.{IsHead};
 ghost use Rattle.mvt_message.specs.Resuming.{IsKnown, IsPartOf, IsSeen, IsSeenWithin};
 
@@ -18,15 +18,16 @@ use crate::around::{Around, around_from, may_be_whole, whole_of};
 use crate::feature_visitor::FeatureVisitor;
 use crate::keys_first::{begins_with_key, keys_first};
 use crate::layer_rewriting::RewrittenLayer;
-use crate::looking::{Counts, counts_from, may_be_put_in_order, may_be_texts};
+use crate::looking::{Counts, counts_from, may_be_put_in_order};
 use crate::numbers::layer;
 use crate::resuming::{OrderedLayer, written_layer};
 use mvt_attrs::{LayerKeys, are_distinct};
-use mvt_base::{LIMIT, Text};
+use mvt_base::LIMIT;
 use mvt_feature::{NotCanonical, is_canonical_value, judge_canonical};
 use mvt_geometry::Ignore;
 use mvt_wire::{field_len, short_bytes_at};
 use std::alloc::{AllocError, Global};
+use std::convert::AsSlice;
 use std::str;
 
 /// The name and the extent of such a layer, and its canonical fields besides these and the version,
@@ -171,7 +172,6 @@ pub(crate) struct Part<'a> {
     /// The offset after the features.
     pub(crate) features_end: usize,
     pub(crate) front: Front<'a>,
-    pub(crate) keys: Vec<Text>,
     pub(crate) reached: Reached,
 }
 
@@ -181,7 +181,7 @@ pub(crate) struct Front<'a> {
     /// Whether no key and no value stands twice, as far as is known.
     pub(crate) is_apart: bool,
     pub(crate) keys_at: usize,
-    pub(crate) keys: Vec<&'a [u8]>,
+    pub(crate) keys: Vec<&'a str>,
     pub(crate) values_at: usize,
     pub(crate) values: Vec<&'a [u8]>,
     /// The offset after the values.
@@ -219,10 +219,7 @@ pub(crate) fn seen_of<'a, V: FeatureVisitor>(
         features_at,
         front,
     } = frame;
-    let Some(keys) = texts_of(alloc, &front.keys)? else {
-        return Err(NotCanonical::Other);
-    };
-    let reached = judge_features(alloc, visitor, body, features_at, &front, &keys)?;
+    let reached = judge_features(alloc, visitor, body, features_at, &front)?;
     if !reached.is_whole {
         return Ok(Seen::First(Part {
             name,
@@ -230,7 +227,6 @@ pub(crate) fn seen_of<'a, V: FeatureVisitor>(
             features_at,
             features_end: front.keys_at,
             front,
-            keys,
             reached,
         }));
     }
@@ -276,9 +272,6 @@ pub(crate) fn front_from<'a>(
     ensures at { IfOk result (λ front. front.keys_at ≡ keys_at) }
 {
     let (keys, values_at) = keys_from(alloc, body, keys_at, counts.keys)?;
-    if !may_be_texts(&keys, body.len() - values_at) {
-        return Err(NotCanonical::Other);
-    }
     let (values, end_at) = values_from(alloc, body, values_at, counts.values)?;
     Ok(Front {
         is_apart: are_apart(alloc, &keys, &values)?,
@@ -303,39 +296,38 @@ pub(crate) fn after_features(body: &[u8], start: usize) -> usize
     at
 }
 
-/// The payloads of the keys, and the offset after them. There is room for so many at first.
+/// The keys, and the offset after them. There is room for so many at first.
 fn keys_from(
     alloc: Global,
     body: &[u8],
     start: usize,
     room: usize,
-) -> Result<(Vec<&[u8]>, usize), AllocError>
+) -> Result<(Vec<&str>, usize), AllocError>
     requires { start ≤ length body.now }
-    ensures { IfOk result (λ f. ArePayloadsFrom body.now start KEYS f.0.items f.1) }
+    ensures fields { IfOk result (λ f. ArePayloadsFrom body.now start KEYS f.0.items f.1) }
+    ensures texts { IfOk result (λ f. AllByRecursion IsUtf8 (lent f.0.items)) }
 {
     let mut keys = Vec::with_capacity(alloc, room)?;
     let mut at = start;
-    while let Some((key, after)) = short_bytes_at(body, at, layer::KEYS) {
+    while let Some((key, after)) = key_from(body, at) {
         keys.push(key)?;
         at = after;
     }
     Ok((keys, at))
 }
 
-/// The texts that these bytes are, where they are texts.
-pub(crate) fn texts_of(alloc: Global, payloads: &[&[u8]]) -> Result<Option<Vec<Text>>, AllocError>
-    ensures are { IfOk result (λ found. IfSome found (λ texts. texts.items ≡ lent payloads.now)) }
-    ensures texts { IfOk result (λ found. IfSome found
-        (λ texts. AllByRecursion IsUtf8 texts.items)) }
+fn key_from(body: &[u8], at: usize) -> Option<(&str, usize)>
+    requires { at ≤ length body.now }
+    ensures field { IfSome result (λ f. drop at body.now
+        ≡ short_field KEYS (bytes f.0.now) ++ drop f.1 body.now) }
+    ensures text { IfSome result (λ f. IsUtf8 f.0.now) }
+    ensures within { IfSome result (λ f. (at < f.1) × (f.1 ≤ length body.now)) }
 {
-    let mut texts = Vec::with_capacity(alloc, payloads.len())?;
-    for payload in payloads {
-        match str::from_utf8(payload) {
-            Ok(text) => texts.push(Text::from_str(alloc, text)?)?,
-            Err(_) => return Ok(None),
-        }
+    let (key, after) = short_bytes_at(body, at, layer::KEYS)?;
+    match str::from_utf8(key) {
+        Ok(text) => Some((text, after)),
+        Err(_) => None,
     }
-    Ok(Some(texts))
 }
 
 /// The payloads of the values, and the offset after them. There is room for so many at first.
@@ -372,7 +364,7 @@ fn value_from(body: &[u8], at: usize) -> Option<(&[u8], usize)>
 }
 
 /// Whether no key and no value stands twice. It may also say no for want of time.
-fn are_apart(alloc: Global, keys: &[&[u8]], values: &[&[u8]]) -> Result<bool, AllocError>
+fn are_apart(alloc: Global, keys: &[&str], values: &[&[u8]]) -> Result<bool, AllocError>
     ensures keys { IfOk result (λ apart. IsTrue apart → AreDistinct (lent keys.now)) }
     ensures values { IfOk result (λ apart. IsTrue apart → AreDistinct (lent values.now)) }
 {
@@ -383,46 +375,51 @@ fn are_apart(alloc: Global, keys: &[&[u8]], values: &[&[u8]]) -> Result<bool, Al
 }
 
 /// Where the used ones of some payloads end, so many, whose fields of this number end at an offset.
-pub(crate) fn end_of_used(number: u32, payloads: &[&[u8]], used: usize, end: usize) -> usize
+pub(crate) fn end_of_used<T: AsSlice<u8>>(
+    number: u32,
+    payloads: &[T],
+    used: usize,
+    end: usize,
+) -> usize
     requires number { number < 2 ^ 29 }
     requires used { used ≤ length payloads.now }
-    requires room { length (spelled (map (lent_field number) payloads.now)) ≤ end }
+    requires room { length (spelled (map (field_of T.items number) payloads.now)) ≤ end }
     requires small { end ≤ LIMIT }
-    ensures { result + length (spelled (map (lent_field number) (drop used payloads.now))) ≡ end }
+    ensures { result + length (spelled (map (field_of T.items number) (drop used payloads.now)))
+        ≡ end }
 {
     let unused = &payloads[used..];
     let mut at = end;
     for payload in unused {
-        at -= field_len(number, payload.len() as u64) as usize;
+        at -= field_len(number, payload.as_slice().len() as u64) as usize;
     }
     at
 }
 
-/// Judges how far canonical features stand from an offset on, in a layer with this front and these
-/// keys, and use its entries in their order. A visitor is told them. Where an entry stands twice,
-/// none is judged.
+/// Judges how far canonical features stand from an offset on, in a layer with this front, and use
+/// its entries in their order. A visitor is told them. Where an entry stands twice, none is judged.
 fn judge_features<V: FeatureVisitor>(
     alloc: Global,
     visitor: &mut V,
     body: &[u8],
     start: usize,
     front: &Front<'_>,
-    keys: &[Text],
 ) -> Result<Reached, NotCanonical>
     requires { start ≤ length body.now }
     ensures features { (items : List Item) → V.has_features items visitor.old [] → IfOk result
         (λ reached. (held : List AValue) → length held ≡ length front.now.values.items
-        → AreReady keys.now held (0, 0)
-        → AreFeaturesFrom (λ fs. IsTrue reached.is_whole → V.has_features items visitor.new fs) body.now
-        start keys.now held reached.at reached.used) }
-    ensures within { IfOk result (λ reached. (reached.used.0 ≤ length keys.now)
+        → AreReady (lent front.now.keys.items) held (0, 0)
+        → AreFeaturesFrom (λ fs. IsTrue reached.is_whole → V.has_features items visitor.new fs)
+        body.now start (lent front.now.keys.items) held reached.at reached.used) }
+    ensures within { IfOk result (λ reached. (reached.used.0 ≤ length front.now.keys.items)
         × (reached.used.1 ≤ length front.now.values.items) × (reached.at ≤ length body.now)) }
     ensures whole { IfOk result (λ reached. IsTrue reached.is_whole
         → IsTrue front.now.is_apart × (reached.at ≡ front.now.keys_at)) }
     ensures none { IfOk result (λ reached. front.now.is_apart ≡ false → reached.at ≡ start) }
 {
+    let keys = front.keys.len();
     let values = front.values.len();
-    let mut layer_keys = LayerKeys::new(alloc, keys);
+    let mut layer_keys = LayerKeys::new(alloc, &front.keys);
     let mut used = (0, 0);
     let mut at = start;
     let end = copies_end(front, start);
@@ -432,11 +429,11 @@ fn judge_features<V: FeatureVisitor>(
                 at = after;
                 used = more;
             }
-            Err(NotCanonical::Other) => return reached_at(at, used, false, keys.len(), values),
+            Err(NotCanonical::Other) => return reached_at(at, used, false, keys, values),
             Err(error) => return Err(error),
         }
     }
-    reached_at(at, used, is_whole(front, at), keys.len(), values)
+    reached_at(at, used, is_whole(front, at), keys, values)
 }
 
 /// Where the features that are looked at end: none is where an entry stands twice.

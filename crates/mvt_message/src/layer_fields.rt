@@ -91,7 +91,7 @@ impl<'a> LayerFields<'a> {
             → V.has_given given visitor.old → V.has_given given visitor.new }
     {
         let at = payload_at + field.at as u64;
-        match self.header.take(alloc, field, at) {
+        match self.header.take(field, at) {
             Ok(()) => {}
             Err(error) => return Err(LayerFault::Field(error)),
         }
@@ -123,7 +123,7 @@ pub(crate) fn header_fault_before(
     let mut header = LayerHeader::new(alloc);
     for field in Fields::new(payload) {
         match field {
-            Ok(field) => match header.take(alloc, &field, payload_at + field.at as u64) {
+            Ok(field) => match header.take(&field, payload_at + field.at as u64) {
                 Ok(()) => {}
                 Err(error) => return error,
             },

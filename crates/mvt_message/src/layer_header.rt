@@ -4,6 +4,7 @@ ghost use Rattle.std.specs.Prelude.{◌≡◌, ◌^◌, ◌<◌, [], ◌∷◌, 
 ghost use Rattle.std.specs.Option.{option_map, option_copied};
 ghost use Rattle.mvt_base.specs.Reports.{Reports};
 ghost use Rattle.mvt_base.specs.Rules.{first};
+ghost use Rattle.mvt_attrs.specs.FirstUses.{lent};
 ghost use Rattle.mvt_wire.specs.Field.{content_of};
 ghost use Rattle.mvt_feature.specs.Faults.{fault_of, fault_at as the_fault_at};
 ghost use Rattle.mvt_feature.specs.Forms.{number_rules};
@@ -11,7 +12,6 @@ ghost use Rattle.mvt_message.specs.Inner.{header_forms, version_after, name_afte
 
 use crate::numbers::{DEFAULT_EXTENT, layer};
 use crate::payload::{check_bytes, text_of, uint32_of};
-use mvt_base::Text;
 use mvt_feature::MessageError;
 use mvt_wire::Field;
 use std::alloc::{AllocError, Global};
@@ -25,7 +25,7 @@ pub(crate) struct LayerHeader<'a> {
     pub(crate) version: Option<u32>,
     pub(crate) name: Option<&'a str>,
     pub(crate) extent: u32,
-    pub(crate) keys: Vec<Text>,
+    pub(crate) keys: Vec<&'a str>,
     /// How many features there are.
     pub(crate) features: usize,
 }
@@ -35,7 +35,7 @@ impl<'a> LayerHeader<'a> {
         ensures version { result.version ≡ None }
         ensures name { option_copied result.name ≡ None }
         ensures extent { result.extent ≡ 4096 }
-        ensures keys { result.keys.items ≡ [] }
+        ensures keys { lent result.keys.items ≡ [] }
         ensures features { result.features ≡ 0 }
     {
         LayerHeader {
@@ -49,12 +49,7 @@ impl<'a> LayerHeader<'a> {
 
     /// Takes one more field, which is told to stand at this place.
     #[inline(always)]
-    pub(crate) fn take(
-        &mut self,
-        alloc: Global,
-        field: &Field<'a>,
-        at: u64,
-    ) -> Result<(), MessageError>
+    pub(crate) fn take(&mut self, field: &Field<'a>, at: u64) -> Result<(), MessageError>
         requires few { self.old.features < 2 ^ 32 }
         ensures ok { OnOk result (first
             (number_rules header_forms field.now.number (content_of field.now.payload)) ≡ None) }
@@ -65,8 +60,8 @@ impl<'a> LayerHeader<'a> {
             (content_of field.now.payload)) }
         ensures extent { OnOk result (self.new.extent
             ≡ extent_after self.old.extent field.now.number (content_of field.now.payload)) }
-        ensures keys { OnOk result (self.new.keys.items
-            ≡ self.old.keys.items ++ keys_at field.now.number (content_of field.now.payload)) }
+        ensures keys { OnOk result (lent self.new.keys.items
+            ≡ lent self.old.keys.items ++ keys_at field.now.number (content_of field.now.payload)) }
         ensures features { OnOk result (self.new.features
             ≡ features_after self.old.features field.now.number) }
         ensures err { IfErr result (λ error. Reports (fault_of error)
@@ -80,10 +75,7 @@ impl<'a> LayerHeader<'a> {
                 check_bytes(payload, at)?;
                 self.features += 1;
             }
-            layer::KEYS => {
-                let key = Text::from_str(alloc, text_of(payload, at)?)?;
-                add_key(&mut self.keys, key)?;
-            }
+            layer::KEYS => add_key(&mut self.keys, text_of(payload, at)?)?,
             layer::VALUES => check_bytes(payload, at)?,
             layer::EXTENT => self.extent = uint32_of(payload, at)?,
             layer::VERSION => self.version = Some(uint32_of(payload, at)?),
@@ -95,8 +87,8 @@ impl<'a> LayerHeader<'a> {
 
 /// Adds a key; the first takes room for those of a small layer.
 #[inline(always)]
-fn add_key(keys: &mut Vec<Text>, key: Text) -> Result<(), AllocError>
-    ensures { OnOk result (keys.new.items ≡ keys.old.items ++ key ∷ []) }
+fn add_key<'a>(keys: &mut Vec<&'a str>, key: &'a str) -> Result<(), AllocError>
+    ensures { OnOk result (lent keys.new.items ≡ lent keys.old.items ++ key.now ∷ []) }
 {
     keys.reserve(if keys.is_empty() { FIRST_KEYS } else { 1 })?;
     keys.push_reserved(key);

@@ -13,10 +13,11 @@ ghost use Rattle.mvt_message.specs.Rewriting.{IsRewrittenAs, tail_of};
 use crate::feature_visitor::FeatureVisitor;
 use crate::layer_writer::{LayerWriter, put_head};
 use crate::visiting::{LayerVisitor, Visited, visit_version_2};
-use mvt_attrs::LayerKeys;
-use mvt_base::{LIMIT, Text};
+use mvt_attrs::{LayerKeys, Value};
+use mvt_base::LIMIT;
 use mvt_feature::{MessageError, Scratch, read_value};
 use std::alloc::{AllocError, Global};
+use std::mem;
 
 /// An item that was made canonical.
 #[derive(Drop)]
@@ -96,12 +97,17 @@ pub fn rewrite_parts<'a, V: FeatureVisitor>(
         (item_fault payload.now payload_at tag_at)) }
 {
     let mut rewriter = LayerRewriter {
+        values: Vec::new(alloc),
         writer: LayerWriter::with_room(alloc, payload.len())?,
         visitor,
     };
     match visit_version_2(alloc, &mut rewriter, payload, payload_at, tag_at) {
         Ok(Visited::Layer { name, extent }) => {
-            let LayerRewriter { writer, visitor } = rewriter;
+            let LayerRewriter {
+                writer,
+                visitor,
+                ..
+            } = rewriter;
             Ok(Rewritten::Layer(RewrittenLayer {
                 name,
                 extent,
@@ -117,12 +123,14 @@ pub fn rewrite_parts<'a, V: FeatureVisitor>(
 /// Writes the features of a layer as they are visited, and has a visitor be told them.
 #[derive(Drop)]
 struct LayerRewriter<V: FeatureVisitor> {
+    /// The values until the keys come: then the writer takes them all at once.
+    values: Vec<Value>,
     writer: LayerWriter,
     visitor: V,
 }
 
 impl<V: FeatureVisitor> LayerVisitor for LayerRewriter<V> {
-    ghost use Rattle.std.specs.Prelude.{List, []};
+    ghost use Rattle.std.specs.Prelude.{◌≡◌, List, []};
     ghost use Rattle.mvt_message.specs.declared.item.Item.{Item};
     ghost use Rattle.mvt_message.specs.Rewriting.{HasGathered, HasWritten};
 
@@ -130,8 +138,8 @@ impl<V: FeatureVisitor> LayerVisitor for LayerRewriter<V> {
 
     ghost has_given = { λ items r. V.has_features items r.visitor [] };
 
-    ghost has_values = { λ items r values. HasGathered r.writer values
-        × V.has_features items r.visitor [] };
+    ghost has_values = { λ items r values. (r.values.items ≡ values)
+        × HasGathered r.writer [] × V.has_features items r.visitor [] };
 
     ghost has_features = { λ items keys values r _ features.
         HasWritten keys values r.writer features
@@ -144,12 +152,14 @@ impl<V: FeatureVisitor> LayerVisitor for LayerRewriter<V> {
         payload_at: u64,
         tag_at: u64,
     ) -> Result<(), MessageError> {
-        let value = read_value(alloc, payload, payload_at, tag_at)?;
-        self.writer.uses.values.add(&value)?;
+        self.values
+            .push(read_value(alloc, payload, payload_at, tag_at)?)?;
         Ok(())
     }
 
-    fn visit_keys(&mut self, _: Global, keys: &[Text], _: usize) -> Result<(), AllocError> {
+    fn visit_keys(&mut self, alloc: Global, keys: &[&str], _: usize) -> Result<(), AllocError> {
+        let values = taken(alloc, &mut self.values);
+        self.writer.take_values(values)?;
         self.writer.place_keys(keys)
     }
 
@@ -162,7 +172,18 @@ impl<V: FeatureVisitor> LayerVisitor for LayerRewriter<V> {
         _: usize,
         scratch: &mut Scratch,
     ) -> Result<(), MessageError> {
-        let LayerRewriter { writer, visitor } = self;
+        let LayerRewriter {
+            writer,
+            visitor,
+            ..
+        } = self;
         writer.write_feature(alloc, visitor, payload, payload_at, keys, scratch)
     }
+}
+
+/// The values of a list, which has none then.
+fn taken(alloc: Global, values: &mut Vec<Value>) -> Vec<Value>
+    ensures { result.items ≡ values.old.items }
+{
+    mem::replace(values, Vec::new(alloc))
 }

@@ -3,6 +3,7 @@
 ghost use Rattle.std.specs.Prelude.{◌≡◌, ◌⊎◌, ℕ, ◌<◌, [], ◌∷◌, ◌++◌, List, length, map, IfOk, IsErrOf, OnErr, OnOk};
 ghost use Rattle.mvt_base.specs.Related.{Extends};
 ghost use Rattle.mvt_attrs.specs.declared.value.Value.{Value as AValue};
+ghost use Rattle.mvt_attrs.specs.FirstUses.{lent};
 ghost use Rattle.mvt_attrs.specs.Pools.{key_pool, value_pool};
 ghost use Rattle.mvt_attrs.specs.Tags.{Names};
 ghost use Rattle.mvt_geometry.specs.Drawing.{Draws};
@@ -14,7 +15,7 @@ ghost use Rattle.mvt_message.specs.CanonicalItems.{keys_of, values_of, head_fiel
 ghost use Rattle.mvt_message.specs.Rewriting.{HasGathered, HasWritten, HasWrittenUpTo, IsPayloadOf, tail_of};
 
 use crate::numbers::{VERSION_2, layer};
-use mvt_attrs::{LayerEntries, PoolError, Value};
+use mvt_attrs::{LayerEntries, PoolError, Value, texts_of};
 use mvt_base::{LIMIT, Text};
 use mvt_feature::{
     Feature, Scratch, append_drawn_feature, append_feature, append_value, value_len,
@@ -98,20 +99,23 @@ impl LayerWriter {
     /// # Errors
     ///
     /// When memory runs out.
-    pub fn add_keys(&mut self, keys: &[Text]) -> Result<(), AllocError>
+    pub fn add_keys(&mut self, keys: &[&str]) -> Result<(), AllocError>
         ensures { (held : List AValue) → HasGathered self.old held
-            → OnOk result (HasWritten keys.now held self.new []) }
+            → OnOk result (HasWritten (lent keys.now) held self.new []) }
     {
         self.payload.reserve(FEATURE_ROOM)?;
+        self.features.reserve(LAYER_ROOM)?;
         self.place_keys(keys)
     }
 
-    /// The same without room for a feature, where it was asked for before.
-    pub(crate) fn place_keys(&mut self, keys: &[Text]) -> Result<(), AllocError>
+    /// The same without room for features, where it was asked for before.
+    pub(crate) fn place_keys(&mut self, keys: &[&str]) -> Result<(), AllocError>
         ensures { (held : List AValue) → HasGathered self.old held
-            → OnOk result (HasWritten keys.now held self.new []) }
+            → OnOk result (HasWritten (lent keys.now) held self.new []) }
     {
-        self.uses.keys.add_all(keys)
+        let alloc = *self.payload.allocator();
+        let texts = texts_of(alloc, keys)?;
+        self.uses.keys.take_all(texts)
     }
 
     /// How many values the layer has.

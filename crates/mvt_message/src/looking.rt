@@ -12,7 +12,6 @@ use mvt_attrs::are_distinct;
 use mvt_feature::may_be_ordered;
 use mvt_wire::{short_bytes_at, short_number_at};
 use std::alloc::{AllocError, Global};
-use std::str;
 
 /// The most keys, and values, of a layer that is looked at further: the lists of them stay small.
 const MOST_LISTED: usize = 1 << 16;
@@ -205,18 +204,4 @@ fn are_first_apart(
         }
     }
     are_distinct(alloc, &first[..count])
-}
-
-/// Whether keys are texts, where more than a few bytes stand after them, which cost time too. Yes
-/// means nothing yet; no costs speed alone.
-pub(crate) fn may_be_texts(keys: &[&[u8]], bytes_behind: usize) -> bool {
-    if bytes_behind <= FEW_BYTES {
-        return true;
-    }
-    for key in keys {
-        if str::from_utf8(key).is_err() {
-            return false;
-        }
-    }
-    true
 }

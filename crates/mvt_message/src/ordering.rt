@@ -34,7 +34,7 @@ pub(crate) fn order_from(
         return Ok((part.reached.at, part.reached.used));
     }
     let values = part.front.values.len();
-    let mut keys = LayerKeys::new(alloc, &part.keys);
+    let mut keys = LayerKeys::new(alloc, &part.front.keys);
     let mut used = part.reached.used;
     let mut at = part.reached.at;
     while at < part.features_end {

@@ -12,7 +12,7 @@ use crate::visiting::{LayerVisitor, Visited, visit_version_2};
 use mvt_attrs::{LayerKeys, Value};
 use mvt_base::{Items, LIMIT, Text};
 use mvt_feature::{
-    Feature, MessageError, Scratch, check_feature, judge_value, read_feature_in, read_value,
+    Feature, MessageError, Scratch, judge_feature, judge_value, read_feature_in, read_value,
 };
 use std::alloc::{AllocError, Global};
 
@@ -123,7 +123,7 @@ impl LayerVisitor for LayerKeeper {
         Ok(())
     }
 
-    fn visit_keys(&mut self, _: Global, _: &[Text], features: usize) -> Result<(), AllocError> {
+    fn visit_keys(&mut self, _: Global, _: &[&str], features: usize) -> Result<(), AllocError> {
         self.features.reserve(features)
     }
 
@@ -165,7 +165,7 @@ impl LayerVisitor for LayerJudge {
         judge_value(payload, payload_at, tag_at)
     }
 
-    fn visit_keys(&mut self, _: Global, _: &[Text], _: usize) -> Result<(), AllocError> {
+    fn visit_keys(&mut self, _: Global, _: &[&str], _: usize) -> Result<(), AllocError> {
         Ok(())
     }
 
@@ -178,6 +178,6 @@ impl LayerVisitor for LayerJudge {
         values: usize,
         scratch: &mut Scratch,
     ) -> Result<(), MessageError> {
-        check_feature(alloc, payload, payload_at, keys, values, scratch)
+        judge_feature(alloc, payload, payload_at, keys, values, scratch)
     }
 }

@@ -13,8 +13,8 @@ use crate::layer_rewriting::RewrittenLayer;
 use crate::layer_writer::{FEATURE_ROOM, LayerWriter};
 use crate::numbers::layer;
 use crate::ordering::order_from;
-use mvt_attrs::{LayerEntries, LayerKeys, UsedEntries, Value};
-use mvt_base::{LIMIT, Text};
+use mvt_attrs::{LayerEntries, LayerKeys, UsedEntries, Value, texts_of};
+use mvt_base::LIMIT;
 use mvt_feature::{MessageError, NotCanonical, Scratch, read_value};
 use mvt_geometry::Ignore;
 use mvt_wire::{Payload, put_field, short_bytes_at};
@@ -139,7 +139,7 @@ fn write_behind(
     requires within { start ≤ length body.now }
     ensures { OnOk result (IsWrittenUpTo body.now part.now part.now.features_end writer.new) }
 {
-    let mut keys = LayerKeys::new(alloc, &part.keys);
+    let mut keys = LayerKeys::new(alloc, &part.front.keys);
     let mut scratch = Scratch::new(alloc);
     let mut at = start;
     while at < part.features_end {
@@ -161,7 +161,7 @@ fn listed_writer(alloc: Global, body: &[u8], part: &Part<'_>) -> Result<LayerWri
     let mut writer = LayerWriter::with_room(alloc, body.len())?;
     let held = values_of(alloc, &part.front.values)?;
     writer.take_values(held)?;
-    writer.place_keys(&part.keys)?;
+    writer.place_keys(&part.front.keys)?;
     Ok(writer)
 }
 
@@ -182,7 +182,7 @@ fn with_entries(
     requires ordered { IsOrderedUpTo body.now part.now at used features.items }
     ensures { IfOk result (IsWrittenUpTo body.now part.now at) }
 {
-    let texts = copies_of(alloc, &part.keys)?;
+    let texts = texts_of(alloc, &part.front.keys)?;
     let held = values_of(alloc, &part.front.values)?;
     let keys = UsedEntries::of_apart(alloc, texts, used.0)?;
     let values = UsedEntries::of_apart(alloc, held, used.1)?;
@@ -237,16 +237,6 @@ fn push_value(values: &mut Vec<Value>, value: Value) -> Result<(), AllocError>
 {
     values.push(value)?;
     Ok(())
-}
-
-fn copies_of(alloc: Global, texts: &[Text]) -> Result<Vec<Text>, AllocError>
-    ensures { IfOk result (λ copies. copies.items ≡ texts.now) }
-{
-    let mut copies = Vec::with_capacity(alloc, texts.len())?;
-    for text in texts {
-        copies.push(text.copy(alloc)?)?;
-    }
-    Ok(copies)
 }
 
 /// Writes the feature at an offset, and answers the offset after it.

@@ -3,6 +3,7 @@
 ghost use Rattle.std.specs.Prelude.{◌≡◌, ◌+◌, ◌^◌, ◌<◌, ◌≤◌, ℕ, List, [], ◌∷◌, ◌++◌, length, Some, None, IfOk, IfErr, OnOk};
 ghost use Rattle.mvt_base.specs.Reports.{Reports};
 ghost use Rattle.mvt_attrs.specs.declared.value.Value.{Value};
+ghost use Rattle.mvt_attrs.specs.FirstUses.{lent};
 ghost use Rattle.mvt_wire.specs.Split.{split};
 ghost use Rattle.mvt_feature.specs.declared.feature.Feature.{Feature as AFeature};
 ghost use Rattle.mvt_feature.specs.Faults.{fault_of};
@@ -24,7 +25,7 @@ use crate::layer_fields::{LayerFault, LayerFields, header_fault_before, read_lay
 use crate::numbers::VERSION_2;
 use crate::version::{early_version, read_version};
 use mvt_attrs::LayerKeys;
-use mvt_base::{LIMIT, Text};
+use mvt_base::LIMIT;
 use mvt_feature::{Cause, MessageError, Scratch, fault_at};
 use std::alloc::{AllocError, Global};
 
@@ -78,11 +79,11 @@ pub trait LayerVisitor: Drop {
     fn visit_keys(
         &mut self,
         alloc: Global,
-        keys: &[Text],
+        keys: &[&str],
         features: usize,
     ) -> Result<(), AllocError>
         ensures { (given : Given) (values : List Value) → has_values given self.old values
-            → OnOk result (has_features given keys.now values self.new [] []) };
+            → OnOk result (has_features given (lent keys.now) values self.new [] []) };
 
     /// Takes the feature of a payload, in a layer with these keys and this number of values.
     ///

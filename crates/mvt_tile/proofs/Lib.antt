@@ -18,5 +18,5 @@ mod RoundTripLemmas
 mod ExtractionLemmas
 mod ValidityLemmas
 mod PickLemmas
-mod FindingLemmas
+mod NamedLayerLemmas
 mod OneNameLemmas

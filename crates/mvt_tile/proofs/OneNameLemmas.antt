@@ -20,7 +20,7 @@ use Rattle.mvt_message.proofs.MessageLaws.{item_names, one_item}
 use Rattle.mvt_tile_value.specs.declared.numbers.tile.TheConstants.{LAYERS}
 use Rattle.mvt_tile_value.specs.declared.tile.Tile.{Tile}
 use Rattle.mvt_tile_value.specs.Tiles.{layers_of, HoldsItem, IsTile}
-use Rattle.mvt_tile.specs.Finding.{first_in, first_of, is_layer_of, named_in, IsFirst}
+use Rattle.mvt_tile.specs.NamedLayer.{first_in, first_of, is_layer_of, named_in, IsFirst}
 use Rattle.mvt_tile.specs.TileRules.{bytes_in, payload_of}
 use Rattle.mvt_tile.proofs.LayerLemmas.{layers_of-layer, layers_of-other}
 use Rattle.mvt_tile.proofs.NameLemmas.{or_right_false}

@@ -7,5 +7,5 @@ pub mod Visiting
 pub mod Decoding
 pub mod Reading
 pub mod Extraction
-pub mod Finding
+pub mod NamedLayer
 pub mod Validity

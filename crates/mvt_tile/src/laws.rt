@@ -9,7 +9,7 @@ ghost use Rattle.mvt_tile_value.specs.declared.tile.Tile.{Tile};
 ghost use Rattle.mvt_tile_value.specs.CanonicalTiles.{canonical};
 ghost use Rattle.mvt_tile.specs.FaultPlaces.{StandsIn};
 ghost use Rattle.mvt_tile.specs.Faults.{is_open};
-ghost use Rattle.mvt_tile.specs.Finding.{IsFirst, first_in, named_in};
+ghost use Rattle.mvt_tile.specs.NamedLayer.{IsFirst, first_in, named_in};
 ghost use Rattle.mvt_tile.specs.TileRules.{tile_rules, fault_within, repeats};
 ghost use Rattle.mvt_tile_value.specs.Tiles.{HasDistinctNames, IsTile};
 ghost use Rattle.mvt_tile_value.specs.ValidTiles.{Valid, WasValid};

@@ -1,5 +1,6 @@
 use Rattle.std.proofs.Common.{◌≡◌, ◌++◌, ◌∷◌, [], refl, ap, ◌∙◌}
 use Rattle.std.proofs.lemmas.Result.{err_from_is_err_and}
+use Rattle.mvt_attrs.specs.FirstUses.{lent}
 use Rattle.mvt_wire.specs.Field.{entry_of}
 use Rattle.mvt_wire.specs.Fields.{Ahead}
 use Rattle.mvt_feature.proofs.FeatureLaws.{walks_start, walks_step}
@@ -25,7 +26,7 @@ visit_field-requires-clause-few g c =
 pub loop-field-preserved : goal.loop-field-preserved
 loop-field-preserved g c =
     let done = c.loop-field.invariant.0 in
-    let keys : c.loop-field.keys ≡ c.args.keys.now = c.loop-field.invariant.3 in
+    let keys : c.loop-field.keys ≡ lent c.args.keys.now = c.loop-field.invariant.3 in
     let one = c.in_ok-count-in-Ok.ensures in (
       done ++ entry_of c.in-Ok.field ∷ [],
       walks_step _ _ _ _ _ c.loop-field.invariant.1 (rw c.in-Ok.is at c.in-Some.ensures.steps).0,
@@ -39,7 +40,7 @@ returns-in_err-count-in-Ok-clause-err g c = λ items held are has.
     let p = err_from_is_err_and c.from_residual.result c.from_residual.ensures.1 in
     let done = c.loop-field.invariant.0 in
     let next = c.next.new.self.to_come in
-    let keys : c.loop-field.keys ≡ c.args.keys.now = c.loop-field.invariant.3 in
+    let keys : c.loop-field.keys ≡ lent c.args.keys.now = c.loop-field.invariant.3 in
     let steps = (rw c.in-Ok.is at c.in-Some.ensures.steps).0 in
     let all = (walks_step c.args.payload.now _ next done c.in-Ok.field c.loop-field.invariant.1 steps).fields in
     let reported = (rw keys at c.in_err-count-in-Ok.ensures.err) items held done next.fields are

@@ -1,4 +1,4 @@
-use Rattle.std.proofs.Common.{◌≤◌, length, arith, inr, refl, sym, ap, ◌∙◌}
+use Rattle.std.proofs.Common.{◌≤◌, length, arith, inr, refl, sym}
 use Rattle.mvt_attrs.specs.FirstUses.{lent}
 use Rattle.mvt_message.proofs.AroundLemmas.{around_is}
 use Rattle.mvt_message.proofs.CopyingLemmas.{features_from_none}
@@ -19,5 +19,5 @@ returns c =
     let within : features_at ≤ length body = omega (arith, c.end_of-features_at.ensures, front.values.0) in
     part_is (λ _. Unit {0}) body _ c.args.start features_end around
     (inr (sym c.in_ok-front.ensures.at, c.end_of-features_at.ensures, refl)) front within within
-    ((rw c.in-Some-2.is at c.in_ok-keys.ensures.are) ∙ ap lent c.deref.ensures.value) (rw c.in-Some-2.is at c.in_ok-keys.ensures.texts)
-    (λ held count ready. features_from_none (λ _. Unit {0}) body features_at c.in-Some-2.keys.items held ready tt) (λ _. refl)
+    (λ held count ready. features_from_none (λ _. Unit {0}) body features_at (lent c.in_ok-front.front.keys.items) held ready tt)
+    (λ _. refl)

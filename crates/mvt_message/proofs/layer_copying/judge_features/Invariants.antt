@@ -1,4 +1,5 @@
 use Rattle.std.proofs.Common.{◌≡◌, ◌≤◌, ◌-◌, List, [], length}
+use Rattle.mvt_attrs.specs.FirstUses.{lent}
 use Rattle.mvt_attrs.specs.declared.value.Value.{Value}
 use Rattle.mvt_feature.specs.Copying.{AreReady}
 use Rattle.mvt_message.specs.declared.item.Item.{Item}
@@ -7,10 +8,10 @@ use Rattle.mvt_message.proofs.layer_copying.judge_features.Given as goal
 
 abbrev pub invariant-loop-at : goal.invariant-loop-at
 invariant-loop-at g l =
-    (l.at ≤ length l.body) × (l.layer_keys ≡ l.keys)
+    (l.at ≤ length l.body) × (l.layer_keys ≡ lent l.front.keys.items)
     × ((items : List Item) → g.V.FeatureVisitor.has_features items l.initial.visitor [] → (held : List Value) → length held ≡ l.values
-    → AreReady l.keys held (0, 0)
-    → AreFeaturesFrom (g.V.FeatureVisitor.has_features items l.visitor) l.body l.start l.keys held l.at l.used)
+    → AreReady (lent l.front.keys.items) held (0, 0)
+    → AreFeaturesFrom (g.V.FeatureVisitor.has_features items l.visitor) l.body l.start (lent l.front.keys.items) held l.at l.used)
     × (l.end ≡ l.start → l.at ≡ l.start)
 
 abbrev pub decreases-loop-at : goal.decreases-loop-at

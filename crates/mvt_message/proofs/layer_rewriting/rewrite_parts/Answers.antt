@@ -10,7 +10,7 @@ use Rattle.mvt_message.proofs.layer_rewriting.rewrite_parts.Goals as goal
 pub returns-in-Ok-Layer-clause-item : goal.returns-in-Ok-Layer-clause-item
 returns-in-Ok-Layer-clause-item g c = λ items start.
     let payload = c.args.payload.now in
-    let (item, is, valid, visited) = c.in-Ok-Layer.ensures.item items (c.in_ok-with_room.ensures, start) start in
+    let (item, is, valid, visited) = c.in-Ok-Layer.ensures.item items (c.new.ensures.items, c.in_ok-with_room.ensures, start) start in
     let reported = rw c.in-Ok-Layer.field-0-is at visited in
     let (layer, told, p) =
     layer_visited (λ r. g.V.FeatureVisitor.has_features items r.visitor [])
@@ -31,7 +31,7 @@ returns-in-Ok-Layer-clause-item g c = λ items start.
 pub returns-in-Ok-Foreign-clause-item : goal.returns-in-Ok-Foreign-clause-item
 returns-in-Ok-Foreign-clause-item g c = λ items start.
     let payload = c.args.payload.now in
-    let (item, is, valid, visited) = c.in-Ok-Foreign.ensures.item items (c.in_ok-with_room.ensures, start) start in
+    let (item, is, valid, visited) = c.in-Ok-Foreign.ensures.item items (c.new.ensures.items, c.in_ok-with_room.ensures, start) start in
     let reported = rw c.in-Ok-Foreign.field-0-is at visited in
     let (number, content, told, p) =
     foreign_visited (λ r. g.V.FeatureVisitor.has_features items r.visitor [])

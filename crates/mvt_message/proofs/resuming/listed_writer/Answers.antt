@@ -14,6 +14,6 @@ returns c =
     let same = values_are_held c.args.body.now part.front is.held c.requires.small is.held_are read
     (subst (λ ps. AreRelated IsValueOf (lent ps) read) c.deref.ensures.value c.in_ok-held.ensures) in
     written_none c.args.body.now part _ is c.requires.twice
-    (subst (λ vs. HasWritten part.keys.items vs c.place_keys.new.self []) same
-    (subst (λ ks. HasWritten ks read c.place_keys.new.self []) c.deref-2.ensures.value
+    (subst (λ vs. HasWritten (lent part.front.keys.items) vs c.place_keys.new.self []) same
+    (subst (λ ks. HasWritten (lent ks) read c.place_keys.new.self []) c.deref-2.ensures.value
     (c.in_ok-place_keys.ensures read (c.in_ok-take_values.ensures [] c.in_ok-writer.ensures))))

@@ -11,8 +11,8 @@ pub of_apart-requires-clause-few : goal.of_apart-requires-clause-few
 of_apart-requires-clause-few c =
     let part = c.args.part.now in
     let is = c.requires.part in
-    let few = few_keys c.args.body.now part.front part.keys.items c.requires.small is.is_front is.keys_are is.texts in
-    omega (arith, few, ap length (c.in_ok-texts.ensures ∙ c.deref.ensures.value))
+    let few = few_keys c.args.body.now part.front c.requires.small is.is_front in
+    omega (arith, few, ap length (c.in_ok-texts.ensures ∙ ap lent c.deref.ensures.value))
 
 pub of_apart-requires-2-clause-few : goal.of_apart-requires-2-clause-few
 of_apart-requires-2-clause-few c =
@@ -36,7 +36,7 @@ of_apart-requires-2-clause-apart c =
 pub of_apart-requires-clause-within : goal.of_apart-requires-clause-within
 of_apart-requires-clause-within c =
     let within = c.requires.ordered.ordered.ready.keys_within in
-    omega (arith, within, ap length (c.in_ok-texts.ensures ∙ c.deref.ensures.value))
+    omega (arith, within, ap length (c.in_ok-texts.ensures ∙ ap lent c.deref.ensures.value))
 
 pub of_apart-requires-2-clause-within : goal.of_apart-requires-2-clause-within
 of_apart-requires-2-clause-within c =
@@ -53,7 +53,7 @@ returns c =
     let is = c.requires.ordered in
     let used = c.args.used in
     let read = c.in_ok-held.held.items in
-    let texts_are : c.in_ok-texts.texts.items ≡ part.keys.items = c.in_ok-texts.ensures ∙ c.deref.ensures.value in
+    let texts_are : c.in_ok-texts.texts.items ≡ lent part.front.keys.items = c.in_ok-texts.ensures ∙ ap lent c.deref.ensures.value in
     let same = values_are_held c.args.body.now part.front is.held c.requires.small is.held_are read
     (subst (λ ps. AreRelated IsValueOf (lent ps) read) c.deref-2.ensures.value c.in_ok-held.ensures) in
     ordered_written c.args.body.now part c.args.at used c.args.features.items _ is (

@@ -1,7 +1,7 @@
 use Rattle.std.proofs.Common.{ap, ◌∙◌}
 use Rattle.mvt_wire.specs.Fields.{Ahead}
-use Rattle.mvt_tile.proofs.FindingLemmas.{seek_start}
-use Rattle.mvt_tile.proofs.finding.find_layer.Goals as goal
+use Rattle.mvt_tile.proofs.NamedLayerLemmas.{seek_start}
+use Rattle.mvt_tile.proofs.named_layer.find_layer.Goals as goal
 
 pub loop-field-init : goal.loop-field-init
 loop-field-init c =

@@ -9,7 +9,7 @@ ghost use Rattle.mvt_message.specs.Items.{IsItem};
 ghost use Rattle.mvt_message.specs.ItemRules.{item_fault};
 ghost use Rattle.mvt_tile.specs.declared.fault.Fault.{Fault as TileFault};
 ghost use Rattle.mvt_tile.specs.Faults.{in_layer as in_layer_fault};
-ghost use Rattle.mvt_tile.specs.Finding.{IsFoundAt, first_in, named_fault};
+ghost use Rattle.mvt_tile.specs.NamedLayer.{IsFoundAt, first_in, named_fault};
 ghost use Rattle.mvt_tile.specs.Streams.{ReportsAtEnd};
 ghost use Rattle.mvt_tile.specs.TileRules.{payload_of, rest_rules};
 

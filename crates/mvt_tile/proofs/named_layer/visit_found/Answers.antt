@@ -1,6 +1,6 @@
 use Rattle.std.proofs.Common.{[]}
 use Rattle.mvt_message.proofs.MessageLaws.{item_or_fault_clean}
-use Rattle.mvt_tile.proofs.finding.visit_found.Goals as goal
+use Rattle.mvt_tile.proofs.named_layer.visit_found.Goals as goal
 
 pub returns-in-Ok-clause-ok : goal.returns-in-Ok-clause-ok
 returns-in-Ok-clause-ok g c =

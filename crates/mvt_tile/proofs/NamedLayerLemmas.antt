@@ -20,7 +20,7 @@ use Rattle.mvt_feature.specs.Faults.{MessageFault, fault_of}
 use Rattle.mvt_message.specs.ItemRules.{payload_names}
 use Rattle.mvt_tile_value.specs.declared.numbers.tile.TheConstants.{LAYERS}
 use Rattle.mvt_tile.specs.Faults.{in_layer, outer_fault}
-use Rattle.mvt_tile.specs.Finding.{first_in, first_of, is_layer_of}
+use Rattle.mvt_tile.specs.NamedLayer.{first_in, first_of, is_layer_of}
 use Rattle.mvt_tile.specs.Inner.Judging.{reported_in}
 use Rattle.mvt_tile.specs.Streams.{ReportsAtEnd}
 use Rattle.mvt_tile.specs.TileRules.{payload_of, rest_rules, rest_rules_at}
