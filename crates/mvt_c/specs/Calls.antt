@@ -7,7 +7,7 @@ use Rattle.mvt_tile.specs.declared.fault.Fault.{Fault as TileFault}
 use Rattle.mvt_tile_value.specs.declared.tile.Tile.{Tile}
 use Rattle.mvt_tile_value.specs.CanonicalTiles.{canonical}
 use Rattle.mvt_tile.specs.Extraction.{pick, first_missing}
-use Rattle.mvt_tile.specs.Finding.{first_in, named_fault}
+use Rattle.mvt_tile.specs.NamedLayer.{first_in, named_fault}
 use Rattle.mvt_tile.specs.TileRules.{fault_within}
 use Rattle.mvt_tile_value.specs.Tiles.{IsTile}
 use Rattle.serde_json.specs.Written.{compact_text}

@@ -7,3 +7,4 @@ pub mod Places
 pub mod Building
 pub mod Remarks
 pub mod Around
+pub mod Mending

@@ -10,6 +10,7 @@ mod calls;
 mod decoder;
 mod fault;
 mod lent;
+mod mending;
 mod names;
 mod places;
 mod reading;

@@ -1,7 +1,7 @@
 //! A tile's bytes judged, and read as rows.
 ghost use Rattle.std.specs.Prelude.{◌≡◌, ◌≢◌, ◌≤◌, IfOk, IfErr, OnOk};
 ghost use Rattle.mvt_c.specs.Calls.{IsAccepted, IsReported, IsReportedOf, LacksLayerOf, NotReadOf, NotShown};
-ghost use Rattle.mvt_tile.specs.Finding.{named_fault};
+ghost use Rattle.mvt_tile.specs.NamedLayer.{named_fault};
 ghost use Rattle.mvt_rows.specs.Lent.{table_of};
 ghost use Rattle.mvt_rows.specs.Reading.{IsLayerRead, IsRead};
 ghost use Rattle.mvt_rows.specs.Tables.{table_size};

@@ -48,6 +48,10 @@ pub rewrite_alone : (name : List ℕ) → fault_of mvt (name ∷ codes "rewrite"
 unfolding clap_on_literals mvt bare_mvt extract_app files_app
 rewrite_alone name = refl
 
+pub mend_alone : (name : List ℕ) → fault_of mvt (name ∷ codes "mend" ∷ []) ≡ []
+unfolding clap_on_literals mvt bare_mvt extract_app files_app
+mend_alone name = refl
+
 pub version_alone : (name : List ℕ) → fault_of mvt (name ∷ codes "--version" ∷ []) ≡ []
 unfolding clap_on_literals mvt bare_mvt extract_app files_app
 version_alone name = refl
@@ -64,7 +68,8 @@ bare_alone name word (inr (inr (inr (inl h)))) = ap (λ w. fault_of mvt (name �
 bare_alone name word (inr (inr (inr (inr (inl h))))) = ap (λ w. fault_of mvt (name ∷ w ∷ [])) h ∙ explain_alone name
 bare_alone name word (inr (inr (inr (inr (inr (inl h)))))) = ap (λ w. fault_of mvt (name ∷ w ∷ [])) h ∙ lint_alone name
 bare_alone name word (inr (inr (inr (inr (inr (inr (inl h))))))) = ap (λ w. fault_of mvt (name ∷ w ∷ [])) h ∙ rewrite_alone name
-bare_alone name word (inr (inr (inr (inr (inr (inr (inr h))))))) = ap (λ w. fault_of mvt (name ∷ w ∷ [])) h ∙ version_alone name
+bare_alone name word (inr (inr (inr (inr (inr (inr (inr (inl h)))))))) = ap (λ w. fault_of mvt (name ∷ w ∷ [])) h ∙ mend_alone name
+bare_alone name word (inr (inr (inr (inr (inr (inr (inr (inr h)))))))) = ap (λ w. fault_of mvt (name ∷ w ∷ [])) h ∙ version_alone name
 
 -- a list that isn't empty is given to clap
 pub given_to_clap : {A : Type 0} → (text : A → List ℕ) (words : List A) → (length words == 0) ≡ false

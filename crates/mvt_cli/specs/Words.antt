@@ -5,7 +5,7 @@ use Rattle.clap.specs.Words.{App, Row, Rule, new_app, new_rule, all_of, with_rul
 use Rattle.clap.specs.Kinds.{Kinds}
 use Rattle.clap.specs.declared.builder.action.ArgAction.TheVariants.{Append, SetTrue}
 use Rattle.mvt_tasks.specs.declared.task.Task.{Task}
-use Rattle.mvt_tasks.specs.declared.task.Task.TheVariants.{Fields, Show, Draw, Check, Explain, Lint, Rewrite, Extract, Version}
+use Rattle.mvt_tasks.specs.declared.task.Task.TheVariants.{Fields, Show, Draw, Check, Explain, Lint, Rewrite, Mend, Extract, Version}
 
 -- the names of layers: one or more
 abbrev pub names_rule : Rule
@@ -52,6 +52,7 @@ unfolding bare_mvt extract_app files_app
 mvt =
     with_subcommand
     (with_bare
+    (with_bare
     (with_subcommand
     (with_subcommand
     (with_subcommand (with_bare (with_bare (with_bare bare_mvt (codes "fields")) (codes "show"))
@@ -59,6 +60,7 @@ mvt =
     (files_app (codes "explain")).top)
     (files_app (codes "lint")).top)
     (codes "rewrite"))
+    (codes "mend"))
     extract_app.top
 
 -- why the words are refused, or nothing; an empty list isn't given to clap
@@ -88,8 +90,9 @@ task_named name rows =
     else (if bytes_eq name (codes "explain") then Explain
     else (if bytes_eq name (codes "lint") then Lint
     else (if bytes_eq name (codes "rewrite") then Rewrite
+    else (if bytes_eq name (codes "mend") then Mend
     else (if bytes_eq name (codes "extract") then Extract (names_given rows)
-    else Check))))))
+    else Check)))))))
 
 -- of a line without a subcommand `check`
 abbrev pub task_of_subcommand : Option (List ℕ × List Row) → Task
@@ -143,7 +146,7 @@ files_in words = files_of_matches (flags_in words) (subcommand_in words)
 -- the subcommands that take no words of their own, and the option that wants none beside it
 abbrev pub IsBare : List ℕ → Type 0
 IsBare word = (word ≡ codes "fields")
-    ⊎ ((word ≡ codes "show") ⊎ ((word ≡ codes "draw") ⊎ ((word ≡ codes "check") ⊎ ((word ≡ codes "explain") ⊎ ((word ≡ codes "lint") ⊎ ((word ≡ codes "rewrite") ⊎ (word ≡ codes "--version")))))))
+    ⊎ ((word ≡ codes "show") ⊎ ((word ≡ codes "draw") ⊎ ((word ≡ codes "check") ⊎ ((word ≡ codes "explain") ⊎ ((word ≡ codes "lint") ⊎ ((word ≡ codes "rewrite") ⊎ ((word ≡ codes "mend") ⊎ (word ≡ codes "--version"))))))))
 
 -- a line that is never refused: nothing, the program's name, or its name and a subcommand without
 -- names

@@ -4,10 +4,14 @@ ghost use Rattle.mvt_cli.specs.Words.{IsPlainLine, faults_in, files_in, task_in}
 
 use mvt_tasks::Task;
 
-/// The lines ask for what they name, whatever the program's own name is.
-pub fn lines_ask()
+/// A line without a command asks for a check.
+pub fn bare_lines_check()
     ensures nothing { task_in [] ≡ Task.Check }
     ensures alone { (name : List ℕ) → task_in (name ∷ []) ≡ Task.Check }
+{}
+
+/// The lines ask for what they name, whatever the program's own name is.
+pub fn lines_ask()
     ensures fields { (name : List ℕ) → task_in (name ∷ codes "fields" ∷ []) ≡ Task.Fields }
     ensures show { (name : List ℕ) → task_in (name ∷ codes "show" ∷ []) ≡ Task.Show }
     ensures draw { (name : List ℕ) → task_in (name ∷ codes "draw" ∷ []) ≡ Task.Draw }
@@ -15,9 +19,14 @@ pub fn lines_ask()
     ensures explain { (name : List ℕ) → task_in (name ∷ codes "explain" ∷ []) ≡ Task.Explain }
     ensures lint { (name : List ℕ) → task_in (name ∷ codes "lint" ∷ []) ≡ Task.Lint }
     ensures rewrite { (name : List ℕ) → task_in (name ∷ codes "rewrite" ∷ []) ≡ Task.Rewrite }
+    ensures mend { (name : List ℕ) → task_in (name ∷ codes "mend" ∷ []) ≡ Task.Mend }
     ensures extract { (name : List ℕ)
         → task_in (name ∷ codes "extract" ∷ codes "b" ∷ codes "a" ∷ [])
         ≡ Task.Extract (codes "b" ∷ codes "a" ∷ []) }
+{}
+
+/// These lines ask for the version, whatever the program's own name is.
+pub fn lines_ask_version()
     ensures version { (name : List ℕ) → task_in (name ∷ codes "--version" ∷ []) ≡ Task.Version }
     ensures short { (name : List ℕ) → task_in (name ∷ codes "-V" ∷ []) ≡ Task.Version }
     ensures before { (name : List ℕ)

@@ -1,5 +1,5 @@
-//! The program `mvt`: lists, shows, draws, checks, explains, lints, rewrites and extracts Mapbox
-//! Vector Tiles.
+//! The program `mvt`: lists, shows, draws, checks, explains, lints, rewrites, mends and extracts
+//! Mapbox Vector Tiles.
 #![tactic(auto)]
 
 mod hints;

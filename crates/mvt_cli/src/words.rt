@@ -77,6 +77,11 @@ fn mvt_command<'a>(alloc: Global) -> Result<Command<'a>, AllocError>
         "The name of a file to lint in place of the input",
     )?;
     let rewrite = bare_command(alloc, "rewrite", "Writes the tile in its canonical form");
+    let mend = bare_command(
+        alloc,
+        "mend",
+        "Writes the tile in its canonical form, with repeated points and turned rings mended",
+    );
     let extract = extract_command(alloc)?;
     flags_command(alloc)?
         .subcommand(fields)?
@@ -86,6 +91,7 @@ fn mvt_command<'a>(alloc: Global) -> Result<Command<'a>, AllocError>
         .subcommand(explain)?
         .subcommand(lint)?
         .subcommand(rewrite)?
+        .subcommand(mend)?
         .subcommand(extract)
 }
 
@@ -280,6 +286,7 @@ fn task_named(alloc: Global, name: &str, given: &ArgMatches<'_>) -> Result<Task,
         "explain" => Ok(Task::Explain),
         "lint" => Ok(Task::Lint),
         "rewrite" => Ok(Task::Rewrite),
+        "mend" => Ok(Task::Mend),
         "extract" => Ok(Task::Extract(texts_of(alloc, given, "name")?)),
         _ => Ok(Task::Check),
     }

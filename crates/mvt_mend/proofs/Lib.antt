@@ -9,3 +9,6 @@ mod MendedLemmas
 mod ReadLemmas
 mod SmallLemmas
 mod TurningLemmas
+pub mod FieldsLemmas
+mod MendedTileLemmas
+mod StayLemmas

@@ -5,3 +5,5 @@ pub use Rattle.mvt_mend.proofs.MendedLemmas.{mended_comes_from_spelled}
 pub use Rattle.mvt_mend.proofs.ReadLemmas.{spelled_is_read}
 pub use Rattle.mvt_mend.proofs.SmallLemmas.{mended_draws}
 pub use Rattle.mvt_mend.proofs.TurningLemmas.{turned_area, exterior_area as directed_area_exterior, interior_area as directed_area_interior}
+pub use Rattle.mvt_mend.proofs.MendedTileLemmas.{long_stays}
+pub use Rattle.mvt_mend.proofs.StayLemmas.{tile_stays_bytes, tile_stays_changes}

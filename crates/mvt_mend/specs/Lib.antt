@@ -8,3 +8,8 @@ pub mod Drawing
 pub mod Geometry
 pub mod Origins
 pub mod Spelling
+pub mod Changes
+pub mod Features
+pub mod Tiles
+pub mod Mendable
+pub mod ChangeLines

@@ -58,7 +58,7 @@ fn mend_as(
 }
 
 /// Lines or rings mended, in 32 steps of nesting at most for each of so many integers.
-fn mend_parts(
+pub(crate) fn mend_parts(
     alloc: Global,
     is_ring: bool,
     count: usize,

@@ -1,5 +1,5 @@
 //! Laws about the definitions alone: functions without effect, whose contract is the law.
-ghost use Rattle.std.specs.Prelude.{◌≡◌, ◌<◌, ℕ, Bool, true, List, ◌∷◌, length, None, Some, pos, neg_ℤ, ◌≤ℤ◌};
+ghost use Rattle.std.specs.Prelude.{◌≡◌, ◌<◌, ℕ, Bool, true, List, [], ◌∷◌, length, None, Some, pos, neg_ℤ, ◌≤ℤ◌};
 ghost use Rattle.std.specs.List.{AllByRecursion};
 ghost use Rattle.mvt_geometry.specs.declared.shape.Geometry.{Geometry};
 ghost use Rattle.mvt_geometry.specs.declared.shape.Kind.{Kind};
@@ -14,12 +14,30 @@ ghost use Rattle.mvt_mend.specs.Mending.{mended_lines, mended_rings};
 ghost use Rattle.mvt_mend.specs.Origins.{ComeFrom};
 ghost use Rattle.mvt_mend.specs.Reading.{parts_in};
 ghost use Rattle.mvt_mend.specs.Spelling.{has_rings, HasForm, IsMendedTo};
+ghost use Rattle.mvt_mend.specs.Tiles.{changes_in, mended};
 ghost use Rattle.mvt_mend.specs.Turning.{turned, as_exterior, as_interior};
+ghost use Rattle.mvt_tile_value.specs.declared.tile.Tile.{Tile};
+ghost use Rattle.mvt_tile_value.specs.Tiles.{IsTile};
+
+use mvt_base::LIMIT;
 
 /// Integers that draw a geometry stay.
 pub fn drawn_stays()
     ensures { (kind : Kind) (ints : List ℕ) (g : Geometry) → Draws kind ints g
         → mended_geometry kind ints ≡ None }
+{}
+
+/// Nothing is changed of a tile that keeps every rule.
+pub fn tile_stays()
+    ensures changes { (input : List ℕ) (tile : Tile) → IsTile LIMIT input tile
+        → changes_in input ≡ [] }
+    ensures bytes { (input : List ℕ) (tile : Tile) → IsTile LIMIT input tile
+        → mended input ≡ input }
+{}
+
+/// More bytes than the limit stay as they are.
+pub fn long_stays()
+    ensures { (input : List ℕ) → LIMIT < length input → mended input ≡ input }
 {}
 
 /// What stands in place of integers breaks no rule, or is none at all.

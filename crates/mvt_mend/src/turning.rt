@@ -1,5 +1,5 @@
 //! Rings told in the other direction (section 4.3.4.4).
-ghost use Rattle.std.specs.Prelude.{◌≡◌, reverse, IfOk};
+ghost use Rattle.std.specs.Prelude.{◌≡◌, ◌++◌, reverse, IfOk, OnOk};
 ghost use Rattle.mvt_mend.specs.Turning.{past, turned as the_turned, as_exterior as the_exterior, as_interior as the_interior};
 
 use crate::repeats::is_same;
@@ -15,10 +15,23 @@ pub(crate) fn turned(alloc: Global, ring: &[Point]) -> Result<Items<Point>, Allo
     let [first, others @ ..] = ring else {
         return copied(alloc, ring);
     };
-    let open = opened(*first, others);
-    let mut points: Vec<Point> = open.iter().rev().copied().collect(alloc)?;
-    points.insert(0, *first)?;
+    let mut points = Vec::with_capacity(alloc, ring.len())?;
+    points.push(*first)?;
+    push_reversed(&mut points, opened(*first, others))?;
     Ok(Items::new(points))
+}
+
+/// Appends points from the last to the first.
+fn push_reversed(points: &mut Vec<Point>, path: &[Point]) -> Result<(), AllocError>
+    ensures { OnOk result (points.new.items ≡ points.old.items ++ reverse path.now) }
+{
+    let mut rest = path;
+    while !rest.is_empty() {
+        let end = rest.len() - 1;
+        points.push(rest[end])?;
+        rest = &rest[..end];
+    }
+    Ok(())
 }
 
 /// The points without those at the end that are at one place with the first.

@@ -12,3 +12,5 @@ mod refused;
 mod rings;
 #[cfg(test)]
 mod support;
+#[cfg(test)]
+mod tiles;

@@ -1,8 +1,9 @@
 -- What is made of a list entry by entry: of one more, or of none where one makes nothing.
-use Rattle.std.proofs.Common.{◌≡◌, ℕ, ◌+◌, ◌<◌, List, [], ◌∷◌, ◌++◌, length, take, drop, get_or, Option, Some, None, refl, sym, ap, ◌∙◌}
+use Rattle.std.proofs.Common.{◌≡◌, ℕ, Bor, ◌+◌, ◌<◌, List, [], ◌∷◌, ◌++◌, length, take, drop, get_or, Option, Some, None, refl, sym, ap, ◌∙◌}
 use Rattle.std.specs.Option.{option_map, option_and_then}
-use Rattle.std.proofs.lemmas.List.{take_more}
+use Rattle.std.proofs.lemmas.List.{map_push, take_more}
 use Rattle.mvt_base.proofs.ListLemmas.{around}
+use Rattle.mvt_attrs.specs.FirstUses.{lent}
 use Rattle.mvt_rows.specs.TileRows.{each, steps}
 
 -- a chain of two calls, where the second makes what a further one starts from
@@ -63,3 +64,8 @@ steps_stop f start xs i d now so_far within none =
     ap (steps f start) (around xs i d within)
     ∙ steps_push f start (take i xs) (get_or xs i d) (drop (i + 1) xs) now None so_far
     (ap (option_and_then (λ y. steps f y (drop (i + 1) xs))) none)
+
+-- one more text that is lent
+pub lent_push : (entries : List (Bor (List ℕ))) (x : Bor (List ℕ)) (longer : List (Bor (List ℕ))) → longer ≡ entries ++ x ∷ []
+    → lent longer ≡ lent entries ++ x.now ∷ []
+lent_push entries x longer is = ap lent is ∙ map_push (λ (b : Bor (List ℕ)). b.now) entries x

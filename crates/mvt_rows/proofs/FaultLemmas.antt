@@ -7,6 +7,7 @@ use Rattle.std.specs.Str.{is_utf8}
 use Rattle.std.proofs.lemmas.Bool.{cond-false, ltb-true, ne_eqb}
 use Rattle.std.proofs.lemmas.Option.{none-some, same_Some, slice_get-get_or, slice_get_within, get_or_from_slice_get}
 use Rattle.std.proofs.lemmas.Str.{IsUtf8-from_is_utf8, is_utf8-from_IsUtf8}
+use Rattle.mvt_attrs.specs.FirstUses.{lent}
 use Rattle.mvt_base.specs.Related.{AreRelated}
 use Rattle.mvt_base.proofs.ListLemmas.{around}
 use Rattle.mvt_attrs.specs.declared.value.Value.{Value}
@@ -128,7 +129,7 @@ part_wrong t row (Some j) c h = cc
 
 pub features_wrong : (t : Table) (row : LayerRow) (parts : LayerParts) (keys : List (List ℕ)) (values : List Value)
     → AreLayerParts t row parts
-    → parts_cause t row ≡ None → keys ≡ parts.keys.items → values ≡ parts.values.items → (f : Option ℕ) (c : RowsCause)
+    → parts_cause t row ≡ None → keys ≡ lent parts.keys.items → values ≡ parts.values.items → (f : Option ℕ) (c : RowsCause)
     → IsFeatureWrongIn t keys values parts.rows.now f c → IsInsideWrong t row f c
 features_wrong t row parts keys values are clean keys_are values_are None c h = absurd h
 features_wrong t row parts keys values are clean keys_are values_are (Some j) c h = record {

@@ -9,6 +9,7 @@ use Rattle.std.proofs.lemmas.List.Folds.{list_any-append}
 use Rattle.std.proofs.lemmas.Option.{same_Some}
 use Rattle.std.proofs.lemmas.Str.{IsUtf8-from_is_utf8}
 use Rattle.std.proofs.lemmas.List.{take_all}
+use Rattle.mvt_attrs.specs.FirstUses.{lent}
 use Rattle.mvt_base.specs.declared.TheConstants.{LIMIT}
 use Rattle.mvt_base.specs.Related.{AreRelated}
 use Rattle.mvt_base.proofs.ListLemmas.{around, related_once}
@@ -122,15 +123,15 @@ features_written t keys others values rows i d features w same so_far within nex
 
 layer_of_parts : (t : Table) (row : LayerRow) (parts : LayerParts) (name : List ℕ) (features : List Feature)
     → text_of t.texts row.name ≡ Some name → IsUtf8 name → row.extent < 2 ^ 32 → AreLayerParts t row parts
-    → AreRelated (IsValidFeatureOf t parts.keys.items parts.values.items) parts.rows.now features
+    → AreRelated (IsValidFeatureOf t (lent parts.keys.items) parts.values.items) parts.rows.now features
     → IsValidLayerOf t row (record { name = name; extent = row.extent; features = features })
 unfolding ValidLayer
 layer_of_parts t row parts name features named utf8 extent are related =
-    let both = related_alone (IsFeature t parts.keys.items parts.values.items) ValidFeature parts.rows.now features related in (
+    let both = related_alone (IsFeature t (lent parts.keys.items) parts.values.items) ValidFeature parts.rows.now features related in (
       record {
         name = named;
         extent = refl;
-        keys = parts.keys.items;
+        keys = lent parts.keys.items;
         has_keys = are.keys;
         values = parts.values.items;
         has_values = are.values;
@@ -143,14 +144,14 @@ layer_of_parts t row parts name features named utf8 extent are related =
 
 -- the same of the lists that are handed on
 pub parts_range : (t : Table) (row : LayerRow) (parts : LayerParts) (keys : List (List ℕ)) (values : List Value) → AreLayerParts t row parts
-    → keys ≡ parts.keys.items → values ≡ parts.values.items → AreInRange keys values
+    → keys ≡ lent parts.keys.items → values ≡ parts.values.items → AreInRange keys values
 parts_range t row parts keys values are keys_are values_are =
-    subst (λ k. AreInRange k values) (sym keys_are) (subst (λ v. AreInRange parts.keys.items v) (sym values_are) are.in_range)
+    subst (λ k. AreInRange k values) (sym keys_are) (subst (λ v. AreInRange (lent parts.keys.items) v) (sym values_are) are.in_range)
 
 pub layer_made : (t : Table) (row : LayerRow) (parts : LayerParts) (name : List ℕ) (features : List Feature) (keys : List (List ℕ))
     (values : List Value)
     → text_of t.texts row.name ≡ Some name → IsUtf8 name → row.extent < 2 ^ 32 → AreLayerParts t row parts
-    → keys ≡ parts.keys.items → values ≡ parts.values.items → AreRelated (IsValidFeatureOf t keys values) parts.rows.now features
+    → keys ≡ lent parts.keys.items → values ≡ parts.values.items → AreRelated (IsValidFeatureOf t keys values) parts.rows.now features
     → IsValidLayerOf t row (record { name = name; extent = row.extent; features = features })
 layer_made t row parts name features keys values named utf8 extent are keys_are values_are related =
     layer_of_parts t row parts name features named utf8 extent are

@@ -8,7 +8,7 @@ use Rattle.mvt_tile_value.specs.declared.tile.Tile.{Tile}
 use Rattle.mvt_tile_value.specs.CanonicalTiles.{canonical}
 use Rattle.mvt_tile_value.specs.Tiles.{IsTile}
 use Rattle.mvt_tile_value.specs.ValidTiles.{Valid}
-use Rattle.mvt_tile.specs.Finding.{first_in}
+use Rattle.mvt_tile.specs.NamedLayer.{first_in}
 use Rattle.mvt_tile.specs.TileRules.{payload_of}
 use Rattle.mvt_rows.specs.ReadTables.{read_table, with_item}
 use Rattle.mvt_rows.specs.Tables.{Table, no_rows, table_size}

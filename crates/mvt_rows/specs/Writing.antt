@@ -1,6 +1,7 @@
 -- What is written of rows so far. No public contract cites this.
 use Rattle.std.specs.Prelude.{◌≡◌, ℕ, ◌+◌, ◌^◌, ◌<◌, true, List, [], ◌∷◌, ◌++◌, length, bytes_eq, IsUtf8, IfSome, Some, None}
 use Rattle.std.specs.List.{AllByRecursion, list_any, flat_map}
+use Rattle.mvt_attrs.specs.FirstUses.{lent}
 use Rattle.mvt_base.specs.declared.TheConstants.{LIMIT}
 use Rattle.mvt_base.specs.Related.{AreRelated}
 use Rattle.mvt_attrs.specs.declared.value.Value.{Value}
@@ -43,9 +44,9 @@ pub record AreInRange (keys : List (List ℕ)) (values : List Value) : Type 0 wh
 
 -- what a layer's row names
 pub record AreLayerParts (t : Table) (row : LayerRow) (parts : LayerParts) : Type 0 where
-  pub keys : keys_of t row.keys ≡ Some parts.keys.items
+  pub keys : keys_of t row.keys ≡ Some (lent parts.keys.items)
   pub values : values_of t row.values ≡ Some parts.values.items
-  pub in_range : AreInRange parts.keys.items parts.values.items
+  pub in_range : AreInRange (lent parts.keys.items) parts.values.items
   pub rows : part_of t.features row.features ≡ Some parts.rows.now
 
 -- what a row is that can be written has the name of an item before it

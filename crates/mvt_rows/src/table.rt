@@ -2,6 +2,7 @@
 ghost use Rattle.std.specs.Prelude.{◌≡◌, ℕ, IsUtf8, OnOk, OnErr, nat_le};
 ghost use Rattle.std.specs.List.{AllByRecursion, fold};
 ghost use Rattle.mvt_attrs.specs.declared.value.Value.TheVariants as values;
+ghost use Rattle.mvt_attrs.specs.FirstUses.{lent};
 ghost use Rattle.mvt_feature.specs.ValueRefs.{referred_value};
 ghost use Rattle.mvt_geometry.specs.Visiting.{Part, EndsAs};
 ghost use Rattle.mvt_rows.specs.Lent.{table_of};
@@ -15,7 +16,6 @@ mod visiting;
 
 use crate::places::Places;
 use crate::rows::{FeatureRow, LayerRow, PartRow, PointRow, Rows, Span, ValueRow};
-use mvt_base::Text;
 use mvt_feature::ValueRef;
 use mvt_geometry::{GeometryVisitor, Point, Ring};
 use std::alloc::{AllocError, Global};
@@ -232,12 +232,12 @@ impl Table {
     }
 
     /// Adds the keys of a layer as they stand.
-    fn add_keys(&mut self, keys: &[Text]) -> Result<(), AllocError>
-        ensures keys { OnOk result (self.new ≡ fold with_key self.old keys.now) }
-        ensures utf8 { OnOk result (AllByRecursion IsUtf8 keys.now) }
+    fn add_keys(&mut self, keys: &[&str]) -> Result<(), AllocError>
+        ensures keys { OnOk result (self.new ≡ fold with_key self.old (lent keys.now)) }
+        ensures utf8 { OnOk result (AllByRecursion IsUtf8 (lent keys.now)) }
     {
         for key in keys {
-            self.add_key(key.as_str())?;
+            self.add_key(key)?;
         }
         Ok(())
     }

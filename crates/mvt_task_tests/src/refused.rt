@@ -105,6 +105,8 @@ fn texts_refused_memory(rt: HostRuntime) {
 #[test]
 fn tiles_refused_memory(rt: HostRuntime) {
     expect_once(&rt, Command::Rewrite, BOTH, (0, BOTH, ""));
+    let change = "mended layer 0 feature 0: TurnedRing 0\n";
+    expect_once(&rt, Command::Mend, TURNED, (0, TURNED_BACK, change));
     expect_once(&rt, Command::Extract(&["b", "a"]), BOTH, (0, BOTH, ""));
     expect_once(&rt, Command::Extract(&["a"]), BOTH, (0, ONE_POINT, ""));
 }

@@ -14,6 +14,14 @@ pub(super) const BOTH: &[u8] =
     b"\x1A\x11\x78\x02\x0A\x01a\x12\x07\x18\x01\x22\x03\x09\x32\x22\x28\x80\x20\
     \x1A\x11\x78\x02\x0A\x01b\x12\x07\x18\x01\x22\x03\x09\x32\x22\x28\x80\x20";
 
+// That layer with a triangle instead, whose ring goes the wrong way round.
+pub(super) const TURNED: &[u8] = b"\x1A\x17\x78\x02\x0A\x01a\x12\x0D\x18\x03\x22\x09\
+    \x09\x00\x00\x12\x00\x02\x02\x00\x0F\x28\x80\x20";
+
+// The same, mended.
+pub(super) const TURNED_BACK: &[u8] = b"\x1A\x17\x78\x02\x0A\x01a\x12\x0D\x18\x03\x22\x09\
+    \x09\x00\x00\x12\x02\x02\x01\x00\x0F\x28\x80\x20";
+
 const POINT_LISTED: &str = "0 3 len 17\n";
 
 const POINT_SHOWN: &str = concat!(
@@ -43,7 +51,7 @@ pub(super) const NO_WIRE_TYPE_EXPLAINED: &str = "byte 0, tag byte 0x1b: field 3,
     0  [1b]\n";
 
 // Each command, and its output for the tile of one point.
-pub(super) fn point_written() -> [(Command, &'static [u8]); 8] {
+pub(super) fn point_written() -> [(Command, &'static [u8]); 9] {
     [
         (Command::Fields, POINT_LISTED.as_bytes()),
         (Command::Show, POINT_SHOWN.as_bytes()),
@@ -52,6 +60,7 @@ pub(super) fn point_written() -> [(Command, &'static [u8]); 8] {
         (Command::Explain, POINT_CHECKED.as_bytes()),
         (Command::Lint, b""),
         (Command::Rewrite, ONE_POINT),
+        (Command::Mend, ONE_POINT),
         (Command::Extract(&["a"]), ONE_POINT),
     ]
 }
@@ -66,6 +75,7 @@ pub(super) enum Command {
     Explain,
     Lint,
     Rewrite,
+    Mend,
     Extract(&'static [&'static str]),
     Version,
 }
@@ -87,6 +97,7 @@ pub(super) fn task_of(alloc: Global, command: Command) -> Result<Task, AllocErro
         Command::Explain => Ok(Task::Explain),
         Command::Lint => Ok(Task::Lint),
         Command::Rewrite => Ok(Task::Rewrite),
+        Command::Mend => Ok(Task::Mend),
         Command::Extract(names) => Ok(Task::Extract(Names::new(names_of(alloc, names)?))),
         Command::Version => Ok(Task::Version),
     }

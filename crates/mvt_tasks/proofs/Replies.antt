@@ -1,26 +1,21 @@
 -- A reply that was put out answers its input.
-use Rattle.std.proofs.Common.{◌≡◌, ℕ, ◌<◌, ◌≤◌, Bool, true, false, nat_lt, List, length, slice_get, Option, Some, None, Result, Ok, Err, IfErr, inl, inr, refl, sym, subst, ap, ◌∙◌, arith, codes, if◌then◌else◌}
+use Rattle.std.proofs.Common.{◌≡◌, ℕ, ◌<◌, ◌≤◌, Bool, true, false, nat_lt, List, length, slice_get, Option, Some, None, Result, Ok, Err, IfErr, inl, refl, sym, subst, ap, ◌∙◌, arith, codes, if◌then◌else◌}
 use Rattle.std.specs.Prelude.{IfSome, is_err}
 use Rattle.std.specs.declared.io.ErrorKind.{ErrorKind}
 use Rattle.std.specs.Option.{option_map}
 use Rattle.std.proofs.lemmas.Bool.Decides.{nat_tests}
 use Rattle.std.proofs.lemmas.Option.{IfSome_then}
-use Rattle.mvt_base.specs.Reports.{Reports}
 use Rattle.mvt_io.specs.Counts.{counted}
 use Rattle.mvt_io.specs.States.{Faults, NoneFailed, after_call, failed}
 use Rattle.mvt_tile_value.specs.declared.tile.Tile.{Tile}
-use Rattle.mvt_tile.specs.declared.fault.DecodeError.{DecodeError}
-use Rattle.mvt_tile.specs.declared.fault.DecodeError.TheVariants.{Memory, Fault, Read}
 use Rattle.mvt_tile_value.specs.CanonicalTiles.{canonical}
 use Rattle.mvt_tile_value.specs.Tiles.{IsTile}
 use Rattle.mvt_tile_value.specs.ValidTiles.{Valid}
 use Rattle.mvt_tile.specs.Extraction.{pick, first_missing}
-use Rattle.mvt_tile.specs.Reading.{fault_of}
-use Rattle.mvt_tile.specs.TileRules.{fault_within}
 use Rattle.mvt_tasks.specs.declared.failure.Failure.{Failure}
 use Rattle.mvt_tasks.specs.declared.failure.Failure.TheVariants.{Write}
 use Rattle.mvt_tasks.specs.declared.reply.Reply.{Reply}
-use Rattle.mvt_tasks.specs.Failures.{EndsFailed, FailsWriting, IsRefusal}
+use Rattle.mvt_tasks.specs.Failures.{EndsFailed, FailsWriting}
 use Rattle.mvt_tasks.specs.Output.{IsPrinted, done, refused, bytes_reply, layers_reply, layers_reply_or, missing_line}
 use Rattle.mvt_tasks.proofs.Picks.{missing_at, none_missing}
 

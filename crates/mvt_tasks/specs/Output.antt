@@ -1,7 +1,7 @@
 -- What a run puts on its output and its error stream, and its status.
-use Rattle.std.specs.Prelude.{◌≡◌, ℕ, ◌+◌, ◌<◌, ◌==◌, ◌⊎◌, Bool, false, true, List, ◌++◌, length, take, nat_lt, find, not, Option, Some, None, bytes_eq, if◌then◌else◌, codes, MatchOption, IfSome, IsSome, ⊤}
-use Rattle.std.specs.Option.{option_map}
-use Rattle.std.specs.List.{list_any}
+use Rattle.std.specs.Prelude.{◌≡◌, ℕ, ◌+◌, ◌<◌, ◌==◌, ◌⊎◌, Bool, false, true, List, [], ◌∷◌, ◌++◌, length, take, nat_lt, find, not, Option, Some, None, bytes_eq, if◌then◌else◌, codes, MatchOption, IfSome, IsSome, ⊤}
+use Rattle.std.specs.Option.{option_map, option_or}
+use Rattle.std.specs.List.{flat_map, list_any}
 use Rattle.std.specs.Io.KnownBytes.{Appends}
 use Rattle.mvt_io.specs.Counts.{counted}
 use Rattle.mvt_io.specs.States.{Inflow, Outflow}
@@ -14,6 +14,9 @@ use Rattle.mvt_tile.specs.Extraction.{is_named, pick}
 use Rattle.mvt_tile.specs.Reading.{StopsEarly}
 use Rattle.mvt_tile.specs.TileRules.{fault_within}
 use Rattle.mvt_tile_value.specs.Tiles.{IsTile}
+use Rattle.mvt_mend.specs.declared.change.Change.{Change}
+use Rattle.mvt_mend.specs.ChangeLines.{change_line}
+use Rattle.mvt_mend.specs.Tiles.{changes_in, mended}
 use Rattle.mvt_places.specs.Explanations.{explanation}
 use Rattle.mvt_view.specs.FaultLines.{fault_line}
 use Rattle.mvt_view.specs.FieldLines.{fields_lines, fields_fault}
@@ -26,21 +29,22 @@ use Rattle.mvt_tasks.specs.declared.reply.Reply.{Reply}
 use Rattle.mvt_tasks.specs.declared.viewing.View.{View}
 use Rattle.mvt_tasks.specs.declared.viewing.View.TheVariants.{Json, Svg}
 use Rattle.mvt_tasks.specs.declared.task.Task.{Task}
-use Rattle.mvt_tasks.specs.declared.task.Task.TheVariants.{Fields, Show, Draw, Check, Explain, Lint, Rewrite, Extract, Version}
+use Rattle.mvt_tasks.specs.declared.task.Task.TheVariants.{Fields, Show, Draw, Check, Explain, Lint, Rewrite, Mend, Extract, Version}
 
 -- a text is written, and no line is told
 abbrev pub done : List ℕ → Reply
-done text = record { output = Some text; error_line = None; has_findings = false }
+done text = record { output = Some text; error_line = None; changes = None; has_findings = false }
 
 -- nothing is written, and a line is told, which ends in a line feed
 abbrev pub refused : List ℕ → Reply
-refused line = record { output = None; error_line = Some line; has_findings = false }
+refused line = record { output = None; error_line = Some line; changes = None; has_findings = false }
 
 -- the lines of the fields, and the line of the fault after them
 abbrev pub fields_reply : ℕ → List ℕ → Reply
 fields_reply limit input = record {
   output = Some (fields_lines limit input);
   error_line = option_map (λ fault. fault_line fault ++ codes "\n") (fields_fault limit input);
+  changes = None;
   has_findings = false;
 }
 
@@ -63,7 +67,12 @@ check_lines input tile = report_lines tile (bytes_eq input (canonical tile))
 
 -- a line for each finding
 abbrev pub lint_reply : Tile → Reply
-lint_reply tile = record { output = Some (lint_lines tile); error_line = None; has_findings = not (length (findings_of tile) == 0) }
+lint_reply tile = record {
+  output = Some (lint_lines tile);
+  error_line = None;
+  changes = None;
+  has_findings = not (length (findings_of tile) == 0);
+}
 
 -- the canonical bytes, or the line of a result that is too large
 unfoldable pub bytes_reply : ℕ → Tile → Reply
@@ -105,12 +114,31 @@ abbrev pub told_why : ℕ → List ℕ → Fault → Reply
 told_why limit bytes fault = record {
   output = Some (explanation limit bytes fault);
   error_line = Some (fault_line fault ++ codes "\n");
+  changes = None;
   has_findings = false;
 }
 
 -- the report on an input that is a tile, or what is said of its fault, as these bytes of it tell
 abbrev pub IsExplained : ℕ → List ℕ → List ℕ → Reply → Type 0
 IsExplained limit bytes input reply = IsJudged limit (λ tile. done (check_lines input tile)) (told_why limit bytes) input reply
+
+-- the lines of what is changed, if anything is
+abbrev pub lines_of_changes : List Change → Option (List ℕ)
+lines_of_changes [] = None
+lines_of_changes (change ∷ changes) = Some (flat_map change_line (change ∷ changes))
+
+-- the canonical bytes of a mended tile and what is changed, or the line of a result that is too large
+abbrev pub mended_reply : ℕ → List Change → Tile → Reply
+mended_reply limit changes tile =
+    if nat_lt limit (length (canonical tile)) then refused (codes "mvt: result larger than 67108864 bytes\n")
+    else record (done (canonical tile)) { changes = lines_of_changes changes }
+
+-- an input that is a tile once mended, or the line of its fault as it stands
+abbrev pub IsMendReply : ℕ → List ℕ → Reply → Type 0
+IsMendReply limit input reply =
+    ((tile : Tile) × IsTile limit (mended input) tile × (reply ≡ mended_reply limit (changes_in input) tile))
+    ⊎ ((fault : Fault) × (fault_within limit input ≡ Some fault) × IsSome (fault_within limit (mended input))
+    × (reply ≡ fault_reply fault))
 
 -- the program's name and version
 abbrev pub version_line : List ℕ
@@ -125,6 +153,7 @@ IsReply limit Check input reply = IsPrinted limit (λ tile. done (check_lines in
 IsReply limit Explain input reply = IsExplained limit (take (limit + 1) input) input reply
 IsReply limit Lint input reply = IsPrinted limit lint_reply input reply
 IsReply limit Rewrite input reply = IsPrinted limit (bytes_reply limit) input reply
+IsReply limit Mend input reply = IsMendReply limit input reply
 IsReply limit (Extract names) input reply = IsPrinted limit (layers_reply limit names) input reply
 IsReply limit Version input reply = reply ≡ done version_line
 
@@ -137,6 +166,7 @@ ReadsNoFurther limit Check old new = TakesAtMost (limit + 1) old.left new.left
 ReadsNoFurther limit Explain old new = TakesAtMost (limit + 1) old.left new.left
 ReadsNoFurther limit Lint old new = StopsEarly limit new.given old.left new.left
 ReadsNoFurther limit Rewrite old new = StopsEarly limit new.given old.left new.left
+ReadsNoFurther limit Mend old new = TakesAtMost (limit + 1) old.left new.left
 ReadsNoFurther limit (Extract names) old new = StopsEarly limit new.given old.left new.left
 ReadsNoFurther limit Version old new = new ≡ old
 
@@ -162,10 +192,14 @@ PutOut old new text = Appends old.taken new.taken text × (new.flushes ≡ count
 abbrev pub PutsText : Type 0 → (List ℕ → Type 0) → Reply → Type 0
 PutsText Untouched Writes reply = MatchOption reply.output Untouched Writes
 
--- a reply was given: its text was put out, its line was told, and the status says whether there is one, or findings
+-- what is told on the error stream: the line, or else what is changed
+abbrev pub told_by : Reply → Option (List ℕ)
+told_by reply = option_or reply.error_line reply.changes
+
+-- a reply was given: its text was put out, its line or changes were told, and the status says whether there is a line, or findings
 abbrev pub GivesReply : ℕ → Type 0 → (List ℕ → Type 0) → Type 0 → (List ℕ → Type 0) → Reply → Type 0
 GivesReply status Untouched Writes Silent Prints reply =
-    (status ≡ status_with reply.error_line reply.has_findings) × PutsText Untouched Writes reply × MatchOption reply.error_line Silent Prints
+    (status ≡ status_with reply.error_line reply.has_findings) × PutsText Untouched Writes reply × MatchOption (told_by reply) Silent Prints
 
 -- what a task answers for what a reader had left, where that is known
 abbrev pub IsReplyTo : ℕ → Task → Option (List ℕ) → Reply → Type 0

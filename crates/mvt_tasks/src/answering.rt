@@ -11,6 +11,7 @@ use crate::extraction::extract_layers;
 use crate::failure::Failure;
 use crate::linting::lint_tile;
 use crate::listing::list_fields;
+use crate::mending::mend;
 use crate::reply::Reply;
 use crate::rewriting::rewrite;
 use crate::task::Task;
@@ -43,6 +44,7 @@ pub fn answer<R: Source>(alloc: Global, task: Task, reader: &mut R) -> Result<Re
         Task::Explain => explain(alloc, reader),
         Task::Lint => lint_tile(alloc, reader),
         Task::Rewrite => rewrite(alloc, reader),
+        Task::Mend => mend(alloc, reader),
         Task::Extract(names) => extract_layers(alloc, &names, reader),
         Task::Version => told_version(alloc),
     }

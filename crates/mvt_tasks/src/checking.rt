@@ -42,6 +42,7 @@ fn checked(alloc: Global, input: &[u8]) -> Result<Reply, Failure>
         Err(error) => Ok(Reply {
             output: None,
             error_line: Some(refusal(alloc, error)?),
+            changes: None,
             has_findings: false,
         }),
     }
@@ -56,6 +57,7 @@ pub(crate) fn reported(alloc: Global, survey: &Survey) -> Result<Reply, Failure>
     Ok(Reply {
         output: Some(Items::new(text.into_bytes())),
         error_line: None,
+        changes: None,
         has_findings: false,
     })
 }

@@ -53,6 +53,7 @@ fn why(alloc: Global, input: &[u8], fault: &Fault) -> Result<Reply, Failure>
     Ok(Reply {
         output: Some(Items::new(text.into_bytes())),
         error_line: Some(fault_printed(alloc, fault)?),
+        changes: None,
         has_findings: false,
     })
 }

@@ -42,6 +42,7 @@ pub fn extract_layers<R: Source>(
         Err(error) => Ok(Reply {
             output: None,
             error_line: Some(refusal(alloc, error)?),
+            changes: None,
             has_findings: false,
         }),
     }
@@ -59,16 +60,19 @@ fn extracted(alloc: Global, names: &[String], layers: NamedLayers) -> Result<Rep
         NamedLayers::Bytes(bytes) => Ok(Reply {
             output: Some(Items::new(bytes)),
             error_line: None,
+            changes: None,
             has_findings: false,
         }),
         NamedLayers::Missing(index) => Ok(Reply {
             output: None,
             error_line: Some(missing(alloc, names, index)?),
+            changes: None,
             has_findings: false,
         }),
         NamedLayers::TooLarge => Ok(Reply {
             output: None,
             error_line: Some(too_large(alloc)?),
+            changes: None,
             has_findings: false,
         }),
     }

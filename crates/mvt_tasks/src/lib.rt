@@ -1,5 +1,5 @@
-//! What the program `mvt` does with tiles: it lists, shows, draws, checks, explains, lints, rewrites
-//! and extracts, over any reader and writer, and checks the files of any folder.
+//! What the program `mvt` does with tiles: it lists, shows, draws, checks, explains, lints,
+//! rewrites, mends and extracts, over any reader and writer, and checks the files of any folder.
 #![tactic(auto)]
 
 mod answering;
@@ -14,6 +14,7 @@ mod linting;
 mod listing;
 mod marks;
 mod memory;
+mod mending;
 mod names;
 mod refusal;
 mod reply;
@@ -34,6 +35,7 @@ pub use folder::{Disk, Folder, OpenFiles, Visit};
 pub use linting::lint_tile;
 pub use listing::list_fields;
 pub use memory::{MemoryFile, MemoryFolder};
+pub use mending::mend;
 pub use names::Names;
 pub use reply::{Reply, print};
 pub use rewriting::rewrite;

@@ -36,6 +36,7 @@ pub fn lint_tile<R: Source>(alloc: Global, reader: &mut R) -> Result<Reply, Fail
         Err(error) => Ok(Reply {
             output: None,
             error_line: Some(refusal(alloc, error)?),
+            changes: None,
             has_findings: false,
         }),
     }
@@ -51,6 +52,7 @@ fn linted(alloc: Global, findings: &[Finding]) -> Result<Reply, Failure>
     Ok(Reply {
         output: Some(Items::new(text.into_bytes())),
         error_line: None,
+        changes: None,
         has_findings: !findings.is_empty(),
     })
 }

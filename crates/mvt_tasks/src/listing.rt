@@ -43,6 +43,7 @@ fn listed(alloc: Global, input: &[u8]) -> Result<Reply, Failure>
     Ok(Reply {
         output: Some(Items::new(lines.into_bytes())),
         error_line,
+        changes: None,
         has_findings: false,
     })
 }

@@ -1,5 +1,6 @@
 //! What a command answers, and how it is written.
-ghost use Rattle.std.specs.Prelude.{◌≡◌, ◌<◌, ◌⊎◌, None, OnOk, OnErr, IfOk, IfErr};
+ghost use Rattle.std.specs.Prelude.{◌≡◌, ◌<◌, ◌⊎◌, None, OnOk, OnErr, IfErr, MatchOption};
+ghost use Rattle.std.specs.Option.{option_or};
 ghost use Rattle.mvt_io.specs.States.{NoneFailed};
 ghost use Rattle.mvt_io.specs.Transfers.{TakesPrefix};
 ghost use Rattle.mvt_tasks.specs.Checks.{Prints};
@@ -11,40 +12,35 @@ use mvt_base::{Items, Text};
 use mvt_io::{Sink, write_all};
 
 /// What a command answers: the bytes for the output, if any, the line for the error stream, if
-/// there is one, and whether the bytes tell findings. The status is 1 exactly if there is a line,
-/// and else 5 if there are findings.
+/// there is one, or else lines that say what is changed, and whether the bytes tell findings. The
+/// status is 1 exactly if there is a line, and else 5 if there are findings.
 #[derive(Debug, Drop)]
 pub struct Reply {
     pub output: Option<Items<u8>>,
     pub error_line: Option<Text>,
+    pub changes: Option<Text>,
     pub has_findings: bool,
 }
 
-/// Puts the bytes of a reply out, if there are any due, and answers its line.
+/// Puts the bytes of a reply out, if there are any due.
 ///
 /// # Errors
 ///
 /// Write, if a write or the flush fails; the writer has then taken a front of the bytes.
-fn deliver<W: Sink>(reply: Reply, writer: &mut W) -> Result<Option<Text>, Failure>
-    ensures printed { IfOk result (λ line. line ≡ reply.error_line) }
-    ensures put { OnOk result (PutsText (writer.new ≡ writer.old)
-        (PutOut (W.state writer.old) (W.state writer.new)) reply) }
-    ensures prefix { OnErr result (PutsText ⊥
-        (TakesPrefix (W.state writer.old).taken (W.state writer.new).taken) reply) }
+fn deliver<W: Sink>(output: Option<Items<u8>>, writer: &mut W) -> Result<(), Failure>
+    ensures put { OnOk result (MatchOption output (writer.new ≡ writer.old)
+        (PutOut (W.state writer.old) (W.state writer.new))) }
+    ensures prefix { OnErr result (MatchOption output ⊥
+        (TakesPrefix (W.state writer.old).taken (W.state writer.new).taken)) }
     ensures failed { IfErr result (λ failure. (failure ≡ Failure.Write)
         × EndsFailed (W.state writer.old).faults (W.state writer.new).faults) }
     ensures honest { OnOk result
         (NoneFailed (W.state writer.old).faults (W.state writer.new).faults) }
 {
-    let Reply {
-        output,
-        error_line,
-        ..
-    } = reply;
     if let Some(bytes) = output {
         put_out(bytes.as_slice(), writer)?;
     }
-    Ok(error_line)
+    Ok(())
 }
 
 /// Puts bytes out whole and flushes once.
@@ -76,15 +72,38 @@ pub(crate) fn give<W: Sink, E: Sink>(reply: Reply, writer: &mut W, errors: &mut 
         → Prints (E.state errors.old) (E.state errors.new) (line_of Failure.Write) }
     ensures statuses { IsGiven result ⊎ (result ≡ 3) }
 {
-    let has_findings = reply.has_findings;
-    match deliver(reply, writer) {
-        Ok(None) => status_of_lint(has_findings),
-        Ok(Some(line)) => {
-            print(errors, line.as_str());
-            1
-        }
+    let Reply {
+        output,
+        error_line,
+        changes,
+        has_findings,
+    } = reply;
+    match deliver(output, writer) {
+        Ok(()) => tell(error_line, changes, has_findings, errors),
         Err(failure) => fail(failure, errors),
     }
+}
+
+/// Tells the line of a reply, or else what is changed, and answers its status.
+fn tell<E: Sink>(
+    error_line: Option<Text>,
+    changes: Option<Text>,
+    has_findings: bool,
+    errors: &mut E,
+) -> u8
+    ensures status { result ≡ status_with error_line has_findings }
+    ensures given { IsGiven result }
+    ensures told { MatchOption (option_or error_line changes) (errors.new ≡ errors.old)
+        (Prints (E.state errors.old) (E.state errors.new)) }
+{
+    if let Some(line) = error_line {
+        print(errors, line.as_str());
+        return 1;
+    }
+    if let Some(lines) = changes {
+        print(errors, lines.as_str());
+    }
+    status_of_lint(has_findings)
 }
 
 /// The status of a reply without a line.

@@ -32,16 +32,19 @@ pub fn rewrite<R: Source>(alloc: Global, reader: &mut R) -> Result<Reply, Failur
         Ok(Some(bytes)) => Ok(Reply {
             output: Some(Items::new(bytes)),
             error_line: None,
+            changes: None,
             has_findings: false,
         }),
         Ok(None) => Ok(Reply {
             output: None,
             error_line: Some(too_large(alloc)?),
+            changes: None,
             has_findings: false,
         }),
         Err(error) => Ok(Reply {
             output: None,
             error_line: Some(refusal(alloc, error)?),
+            changes: None,
             has_findings: false,
         }),
     }

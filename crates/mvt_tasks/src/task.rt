@@ -19,6 +19,8 @@ pub enum Task {
     Lint,
     /// The tile in canonical form.
     Rewrite,
+    /// The tile in canonical form, where two rules that it breaks are mended.
+    Mend,
     /// The named layers in canonical form.
     Extract(Names),
     /// The program's name and version; no input is read.

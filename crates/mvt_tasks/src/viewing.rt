@@ -41,6 +41,7 @@ pub fn view_tile<R: Source>(alloc: Global, view: View, reader: &mut R) -> Result
         Err(error) => Ok(Reply {
             output: None,
             error_line: Some(refusal(alloc, error)?),
+            changes: None,
             has_findings: false,
         }),
     }
@@ -58,6 +59,7 @@ fn viewed(alloc: Global, view: View, tile: &Tile) -> Result<Reply, Failure>
     Ok(Reply {
         output: Some(Items::new(text.into_bytes())),
         error_line: None,
+        changes: None,
         has_findings: false,
     })
 }

@@ -1,7 +1,7 @@
 //! The rows of a tile straight from its bytes.
 ghost use Rattle.std.specs.Prelude.{◌≡◌, ◌≤◌, [], None, IfOk, IfErr, IfSome, MatchOption, OnOk};
 ghost use Rattle.mvt_base.specs.declared.TheConstants.{LIMIT};
-ghost use Rattle.mvt_tile.specs.Finding.{first_in, named_fault};
+ghost use Rattle.mvt_tile.specs.NamedLayer.{first_in, named_fault};
 ghost use Rattle.mvt_tile.specs.Streams.{ReportsAtEnd};
 ghost use Rattle.mvt_tile.specs.TileRules.{fault_within};
 ghost use Rattle.mvt_rows.specs.Reading.{IsLayerRead, IsRead};
@@ -184,7 +184,7 @@ impl LayerVisitor for RowsVisitor {
         Ok(self.keep_within()?)
     }
 
-    fn visit_keys(&mut self, _: Global, keys: &[Text], _: usize) -> Result<(), AllocError> {
+    fn visit_keys(&mut self, _: Global, keys: &[&str], _: usize) -> Result<(), AllocError> {
         self.table.add_keys(keys)?;
         self.keep_within()
     }

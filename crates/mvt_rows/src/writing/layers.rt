@@ -3,6 +3,7 @@ ghost use Rattle.std.specs.Prelude.{◌≡◌, ◌∷◌, ◌++◌, [], List, No
 ghost use Rattle.mvt_base.specs.declared.TheConstants.{LIMIT as the_limit};
 ghost use Rattle.mvt_base.specs.Related.{AreRelated};
 ghost use Rattle.mvt_attrs.specs.declared.value.Value.{Value as AValue};
+ghost use Rattle.mvt_attrs.specs.FirstUses.{lent};
 ghost use Rattle.mvt_feature.specs.declared.feature.Feature.{Feature};
 ghost use Rattle.mvt_message.specs.declared.item.Layer.{Layer};
 ghost use Rattle.mvt_message.specs.Rewriting.{HasWrittenUpTo, IsPayloadOf};
@@ -20,7 +21,6 @@ use crate::rows_cause::RowsCause;
 use crate::rows_error::{RowError, if_any};
 use crate::work::Work;
 use mvt_attrs::{LayerKeys, Value};
-use mvt_base::Text;
 use mvt_feature::Scratch;
 use mvt_message::LayerWriter;
 use mvt_wire::PackedNumbers;
@@ -58,7 +58,7 @@ pub(crate) fn layer_payload(
 /// What the row of a layer names.
 #[derive(Drop)]
 struct LayerParts<'a> {
-    keys: Vec<Text>,
+    keys: Vec<&'a str>,
     values: Vec<Value>,
     rows: &'a [FeatureRow],
 }
@@ -112,19 +112,20 @@ impl FeatureLists {
 fn write_features(
     alloc: Global,
     rows: &Rows<'_>,
-    keys: &[Text],
+    keys: &[&str],
     of_layer: &[FeatureRow],
     work: &mut Work,
     writer: &mut LayerWriter,
 ) -> Result<(), RowError>
-    ensures written { (values : List AValue) → AreInRange keys.now values
-        → HasWrittenUpTo the_limit keys.now values writer.old []
+    ensures written { (values : List AValue) → AreInRange (lent keys.now) values
+        → HasWrittenUpTo the_limit (lent keys.now) values writer.old []
         → OnOk result ((features : List Feature)
-        × AreRelated (IsValidFeatureOf (table_of rows.now) keys.now values) of_layer.now features
-        × HasWrittenUpTo the_limit keys.now values writer.new features) }
-    ensures wrong { (values : List AValue) → AreInRange keys.now values
-        → HasWrittenUpTo the_limit keys.now values writer.old []
-        → IfErr result (IfWrong (IsFeatureWrongIn (table_of rows.now) keys.now values
+        × AreRelated (IsValidFeatureOf (table_of rows.now) (lent keys.now) values) of_layer.now
+        features
+        × HasWrittenUpTo the_limit (lent keys.now) values writer.new features) }
+    ensures wrong { (values : List AValue) → AreInRange (lent keys.now) values
+        → HasWrittenUpTo the_limit (lent keys.now) values writer.old []
+        → IfErr result (IfWrong (IsFeatureWrongIn (table_of rows.now) (lent keys.now) values
         of_layer.now)) }
 {
     let mut layer_keys = LayerKeys::new(alloc, keys);

@@ -1,13 +1,13 @@
 //! What spans name: parts of lists, and texts.
 ghost use Rattle.std.specs.Prelude.{◌≡◌, ◌+◌, Some, None, IfOk, IfErr, IsUtf8, MatchOption, OnOk};
 ghost use Rattle.std.specs.List.{AllByRecursion};
+ghost use Rattle.mvt_attrs.specs.FirstUses.{lent};
 ghost use Rattle.mvt_rows.specs.Written.{IfNoPart};
 ghost use Rattle.mvt_rows.specs.TileRows.{each, part_of, text_of};
 
 use crate::rows::Span;
 use crate::rows_error::RowPartError;
 use crate::work::Work;
-use mvt_base::Text;
 use std::alloc::Global;
 use std::str;
 
@@ -39,36 +39,36 @@ pub(crate) fn find_part<T>(list: &[T], span: Span) -> Option<&[T]>
 }
 
 /// The text that a span names.
-pub(crate) fn text(
-    alloc: Global,
-    texts: &[u8],
+pub(crate) fn text<'a>(
+    texts: &'a [u8],
     span: Span,
     work: &mut Work,
-) -> Result<Text, RowPartError>
-    ensures text { IfOk result (λ text. text_of texts.now span ≡ Some text) }
-    ensures utf8 { IfOk result IsUtf8 }
+) -> Result<&'a str, RowPartError>
+    ensures text { IfOk result (λ text. text_of texts.now span ≡ Some text.now) }
+    ensures utf8 { IfOk result (λ text. IsUtf8 text.now) }
     ensures none { IfErr result (IfNoPart (text_of texts.now span ≡ None)) }
 {
     match str::from_utf8(part(texts, span, work)?) {
-        Ok(text) => Ok(Text::from_str(alloc, text)?),
+        Ok(text) => Ok(text),
         Err(_) => Err(RowPartError::NoPart),
     }
 }
 
 /// The keys of a layer.
-pub(crate) fn keys(
+pub(crate) fn keys<'a>(
     alloc: Global,
-    texts: &[u8],
+    texts: &'a [u8],
     spans: &[Span],
     work: &mut Work,
-) -> Result<Vec<Text>, RowPartError>
-    ensures keys { IfOk result (λ keys. each (text_of texts.now) spans.now ≡ Some keys.items) }
-    ensures utf8 { IfOk result (λ keys. AllByRecursion IsUtf8 keys.items) }
+) -> Result<Vec<&'a str>, RowPartError>
+    ensures keys { IfOk result (λ keys. each (text_of texts.now) spans.now
+        ≡ Some (lent keys.items)) }
+    ensures utf8 { IfOk result (λ keys. AllByRecursion IsUtf8 (lent keys.items)) }
     ensures none { IfErr result (IfNoPart (each (text_of texts.now) spans.now ≡ None)) }
 {
     let mut keys = Vec::with_capacity(alloc, spans.len())?;
     for span in spans {
-        keys.push(text(alloc, texts, *span, work)?)?;
+        keys.push(text(texts, *span, work)?)?;
     }
     Ok(keys)
 }

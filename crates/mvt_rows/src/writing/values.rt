@@ -10,6 +10,7 @@ use crate::rows::ValueRow;
 use crate::rows_error::RowPartError;
 use crate::work::Work;
 use mvt_attrs::Value;
+use mvt_base::Text;
 use std::alloc::Global;
 
 /// 0 or 1.
@@ -57,7 +58,8 @@ fn value(
     ensures none { IfErr result (IfNoPart (value_of texts.now row.now ≡ None)) }
 {
     if row.kind == 1 {
-        return Ok(Value::Text(text(alloc, texts, row.text, work)?));
+        let text = text(texts, row.text, work)?;
+        return Ok(Value::Text(Text::from_str(alloc, text)?));
     }
     match number(row.kind, row.bits) {
         Some(value) => Ok(value),

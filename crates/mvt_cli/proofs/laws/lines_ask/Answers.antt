@@ -6,8 +6,6 @@ use Rattle.mvt_cli.proofs.laws.lines_ask.Goals as goal
 pub returns : goal.returns
 unfolding clap_on_literals mvt bare_mvt extract_app files_app
 returns c = record {
-  nothing = refl;
-  alone = λ name. refl;
   fields = λ name. refl;
   show = λ name. refl;
   draw = λ name. refl;
@@ -15,8 +13,6 @@ returns c = record {
   explain = λ name. refl;
   lint = λ name. refl;
   rewrite = λ name. refl;
+  mend = λ name. refl;
   extract = λ name. refl;
-  version = λ name. refl;
-  short = λ name. refl;
-  before = λ name. refl;
 }

@@ -15,8 +15,9 @@ returns c =
     let six = added _ _ _ _ _ c.in_ok-subcommand-6.ensures five c.in_ok-lint.ensures.shape c.in_ok-lint.ensures.local in
     let seven = added _ _ _ _ _ c.in_ok-subcommand-7.ensures six c.bare_command-rewrite.ensures.shape
     c.bare_command-rewrite.ensures.local in
-    IfOk-weaker c.subcommand-8.result _ _
-    (λ m h. added _ _ _ _ _ h seven c.in_ok-extract.ensures.shape c.in_ok-extract.ensures.local) c.subcommand-8.ensures
+    let eight = added _ _ _ _ _ c.in_ok-subcommand-8.ensures seven c.bare_command-mend.ensures.shape c.bare_command-mend.ensures.local in
+    IfOk-weaker c.subcommand-9.result _ _
+    (λ m h. added _ _ _ _ _ h eight c.in_ok-extract.ensures.shape c.in_ok-extract.ensures.local) c.subcommand-9.ensures
 
 pub returns-in_err-extract : goal.returns-in_err-extract
 returns-in_err-extract c =

@@ -1,4 +1,5 @@
-use Rattle.std.proofs.Common.{[], arith, refl}
+use Rattle.std.proofs.Common.{[], ap, arith, refl}
+use Rattle.mvt_attrs.specs.FirstUses.{lent}
 use Rattle.mvt_base.specs.declared.TheConstants.{LIMIT}
 use Rattle.mvt_message.specs.declared.item.Layer.{Layer as ALayer}
 use Rattle.mvt_rows.specs.Lent.{table_of}
@@ -16,9 +17,9 @@ returns-in_err-write_features-clause-wrong c =
     let t = table_of c.args.rows.now in
     let parts = c.in_ok-parts.parts in
     let are = c.in_ok-parts.ensures.parts in
-    let keys = c.as_slice-keys.result.now in
+    let keys = lent c.as_slice-keys.result.now in
     let values = parts.values.items in
-    let keys_are = c.as_slice-keys.ensures.value in
+    let keys_are = ap lent c.as_slice-keys.ensures.value in
     let range = parts_range t c.args.row.now parts keys values are keys_are refl in
     let written = c.in_ok-add_keys.ensures values (c.in_ok-take_values.ensures [] c.new-writer.ensures) in
     wrong_in c.from_residual-in_err-write_features.result _ _ _ c.from_residual-in_err-write_features.ensures.1
@@ -30,9 +31,9 @@ returns-clause-payload c =
     let t = table_of c.args.rows.now in
     let parts = c.in_ok-parts.parts in
     let are = c.in_ok-parts.ensures.parts in
-    let keys = c.as_slice-keys.result.now in
+    let keys = lent c.as_slice-keys.result.now in
     let values = parts.values.items in
-    let keys_are = c.as_slice-keys.ensures.value in
+    let keys_are = ap lent c.as_slice-keys.ensures.value in
     let range = parts_range t c.args.row.now parts keys values are keys_are refl in
     let written = c.in_ok-add_keys.ensures values (c.in_ok-take_values.ensures [] c.new-writer.ensures) in
     let (features, related, has) = c.in_ok-write_features.ensures.written values range (nothing_written LIMIT keys values _ written) in

@@ -1,4 +1,5 @@
 use Rattle.std.proofs.Common.{◌≡◌, List, [], take}
+use Rattle.mvt_attrs.specs.FirstUses.{lent}
 use Rattle.mvt_base.specs.declared.TheConstants.{LIMIT}
 use Rattle.mvt_base.specs.Related.{AreRelated}
 use Rattle.mvt_attrs.specs.declared.value.Value.{Value}
@@ -11,8 +12,8 @@ use Rattle.mvt_rows.proofs.writing.layers.write_features.Given as goal
 
 abbrev pub invariant-loop-index : goal.invariant-loop-index
 invariant-loop-index l = record {
-  same : l.layer_keys ≡ l.keys;
-  done : (values : List Value) → AreInRange l.keys values → HasWrittenUpTo LIMIT l.keys values l.fn.writer []
-      → (features : List Feature) × AreRelated (IsValidFeatureOf (table_of l.rows) l.keys values) (take l.index l.of_layer) features
-      × HasWrittenUpTo LIMIT l.keys values l.writer features;
+  same : l.layer_keys ≡ lent l.fn.keys;
+  done : (values : List Value) → AreInRange (lent l.fn.keys) values → HasWrittenUpTo LIMIT (lent l.fn.keys) values l.fn.writer []
+      → (features : List Feature) × AreRelated (IsValidFeatureOf (table_of l.rows) (lent l.fn.keys) values) (take l.index l.of_layer) features
+      × HasWrittenUpTo LIMIT (lent l.fn.keys) values l.writer features;
 }

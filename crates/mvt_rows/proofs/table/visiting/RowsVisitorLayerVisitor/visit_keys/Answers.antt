@@ -1,6 +1,7 @@
 use Rattle.std.proofs.Common.{[], refl, sym, ap, ◌∙◌, subst}
 use Rattle.std.proofs.lemmas.Result.{on_ok_weaker}
 use Rattle.std.specs.List.{fold}
+use Rattle.mvt_attrs.specs.FirstUses.{lent}
 use Rattle.mvt_rows.specs.Tables.{with_key}
 use Rattle.mvt_rows.specs.Visiting.{AreLayerRows}
 use Rattle.mvt_rows.proofs.VisitLemmas.{keys_visited}
@@ -9,7 +10,7 @@ use Rattle.mvt_rows.proofs.table.visiting.RowsVisitorLayerVisitor.visit_keys.Goa
 pub returns : goal.returns
 returns c = λ given values has.
     let open_at = c.args.self.now.opened in
-    let keys = c.args.keys.now in
+    let keys = lent c.args.keys.now in
     let added = c.in_ok-add_keys.ensures.keys in
     on_ok_weaker c.keep_within.result
     (λ within. (

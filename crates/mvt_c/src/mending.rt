@@ -1,0 +1,111 @@
+//! A tile mended, and what is changed of it, as rows.
+ghost use Rattle.std.specs.Prelude.{◌≡◌, ◌≢◌, ◌≤◌, map, IfOk, IfErr, IsSome};
+ghost use Rattle.mvt_c.specs.Calls.{IsReported};
+ghost use Rattle.mvt_c.specs.Mending.{IsMendedTo, NotMended, change_at, change_of_row, row_of_change};
+ghost use Rattle.mvt_mend.specs.declared.change.Change.{Change as AChange};
+ghost use Rattle.mvt_mend.specs.Tiles.{mended as the_mended};
+ghost use Rattle.mvt_rows.specs.Reading.{IsTooLarge};
+ghost use Rattle.mvt_tile.specs.TileRules.{fault_within};
+
+use crate::fault::Fault;
+use crate::refusal::{Refusal, report};
+use mvt_base::LIMIT;
+use mvt_mend::{Change, MendedTile, mend_tile};
+use std::alloc::{AllocError, Global};
+
+/// A change. What its kind doesn't speak of is 0.
+#[repr(C)]
+#[derive(Clone, Copy, Debug)]
+pub struct ChangeRow {
+    pub kind: u32,
+    pub layer: u64,
+    pub feature: u64,
+    pub part: u64,
+    pub count: u64,
+}
+
+/// The canonical bytes of a tile that is mended, and what is changed, which last until C frees
+/// them.
+#[repr(C)]
+#[derive(Clone, Copy, Debug)]
+pub struct Mended {
+    pub bytes: &'static [u8],
+    pub changes: &'static [ChangeRow],
+}
+
+/// A tile mended (`mvt_mend`).
+#[unsafe(no_mangle)]
+pub extern "C" fn mvt_mend(alloc: Global, bytes: &[u8], out: &mut Mended, fault: &mut Fault) -> u32
+    ensures done { result ≡ 0 → IsMendedTo bytes.now out.new }
+    ensures refused { result ≡ 1 → IsReported bytes.now fault.new }
+    ensures broken { result ≡ 1 → IsSome (fault_within LIMIT (the_mended bytes.now)) }
+    ensures too_large { result ≡ 3 → IsTooLarge (the_mended bytes.now) }
+    ensures few { result ≤ 3 }
+    ensures out_kept { result ≢ 0 → out.new ≡ out.old }
+    ensures fault_kept { result ≢ 1 → fault.new ≡ fault.old }
+
+    // A row tells its change, so the rows say what the lines of `mvt mend` say.
+    ensures told { (change : AChange) → change_of_row (row_of_change change) ≡ change }
+{
+    match made_of(alloc, bytes) {
+        Ok(made) => {
+            *out = made;
+            0
+        }
+        Err(refusal) => report(refusal, fault),
+    }
+}
+
+fn made_of(alloc: Global, bytes: &[u8]) -> Result<Mended, Refusal>
+    ensures done { IfOk result (IsMendedTo bytes.now) }
+    ensures refused { IfErr result (NotMended bytes.now) }
+{
+    let MendedTile {
+        bytes: canonical,
+        changes,
+    } = mend_tile(alloc, bytes)?;
+    let Some(canonical) = canonical else {
+        return Err(Refusal::TooLarge);
+    };
+    let rows = change_rows(alloc, changes.as_slice())?;
+    Ok(Mended {
+        bytes: canonical.leak(),
+        changes: rows.leak(),
+    })
+}
+
+fn change_rows(alloc: Global, changes: &[Change]) -> Result<Vec<ChangeRow>, AllocError>
+    ensures { IfOk result (λ rows. rows.items ≡ map row_of_change changes.now) }
+{
+    let mut rows = Vec::with_capacity(alloc, changes.len())?;
+    for change in changes {
+        rows.push(change_row(*change))?;
+    }
+    Ok(rows)
+}
+
+fn change_row(change: Change) -> ChangeRow
+    ensures { result ≡ row_of_change change }
+{
+    match change {
+        Change::TurnedRing(layer, feature, ring) => change_at(1, layer, feature, ring),
+        Change::RepeatedPoint(layer, feature, part, count) => ChangeRow {
+            count: count as u64,
+            ..change_at(2, layer, feature, part)
+        },
+        Change::PartLeftOut(layer, feature, part) => change_at(3, layer, feature, part),
+        Change::FeatureLeftOut(layer, feature) => change_at(4, layer, feature, 0),
+    }
+}
+
+fn change_at(kind: u32, layer: usize, feature: usize, part: usize) -> ChangeRow
+    ensures { result ≡ change_at kind layer feature part }
+{
+    ChangeRow {
+        kind,
+        layer: layer as u64,
+        feature: feature as u64,
+        part: part as u64,
+        count: 0,
+    }
+}

@@ -1,0 +1,9 @@
+use Rattle.std.proofs.Common.{ap, refl, ◌∙◌}
+use Rattle.mvt_wire.specs.Fields.{Ahead}
+use Rattle.mvt_mend.proofs.FieldsLemmas.{fields_numbered}
+use Rattle.mvt_mend.proofs.features.put_others.Goals as goal
+
+pub loop-field-init : goal.loop-field-init
+loop-field-init c =
+    let start = ap (λ (a : Ahead). a.to_come) c.into_iter-field-iterator.ensures.into_iter_gives ∙ c.new-field-items.ensures.fields in
+    rw start (record { numbered = fields_numbered c.args.payload.now; same = refl })
