@@ -115,8 +115,8 @@ def rust(header):
     return "\n".join([*lines, "}", ""])
 
 
-# What has a name that is told: the causes of faults, notes, findings, and what bytes look like.
-TOLD = ("mvt_cause", "mvt_note", "mvt_finding", "mvt_lookalike")
+# What has a name that is told: the causes of faults, notes, findings, changes, and what bytes look like.
+TOLD = ("mvt_cause", "mvt_note", "mvt_finding", "mvt_change", "mvt_lookalike")
 
 # The numbers that the page names, and the rows that it reads. Its words have 32 bits.
 PAGE_ENUMS = ("mvt_status", "mvt_kind", "mvt_value_kind")
@@ -154,7 +154,7 @@ def javascript(header):
     for enum in PAGE_ENUMS:
         numbers = {name.removeprefix("MVT_"): number for name, number in header.enums[enum]}
         lines.append(_object(enum.removeprefix("mvt_").upper(), numbers))
-    lines += ["", "/** The numbers of causes, notes and findings, by the names that the program prints, and of what bytes look like. */"]
+    lines += ["", "/** The numbers of causes, notes, findings and changes, by the names that the program prints, and of what bytes look like. */"]
     lines += [_object(enum.removeprefix("mvt_").upper(), dict(named(header, enum))) for enum in TOLD]
     lines += ["", "/** The lists of a tile in their order, with the bytes of a row. */"]
     lines += [_object("ROW_SIZES", {name: _placed(header, kind)[0] for name, kind in lists.items()}), ""]
@@ -183,6 +183,7 @@ def go(header):
         "mvt_cause": "uint32",
         "mvt_note": "NoteKind",
         "mvt_finding": "FindingKind",
+        "mvt_change": "ChangeKind",
         "mvt_role": "Role",
         "mvt_lookalike": "Lookalike",
     }

@@ -16,7 +16,7 @@ VERSION = re.search(r'^#define MVT_VERSION "(.*)"$', HEADER, re.M)[1]
 
 # Of each page the document, the module whose help tells the options, and what it is in a line.
 PAGES = {
-    "mvt": ("PROGRAM", None, "check, explain, lint, show, draw, rewrite and extract Mapbox Vector Tiles"),
+    "mvt": ("PROGRAM", None, "check, explain, lint, show, draw, rewrite, mend and extract Mapbox Vector Tiles"),
     "mvt-audit": ("AUDIT", "mvt_tools.audit", "judge every tile of folders, archives and servers of vector tiles"),
     "mvt-geojson": ("GEOJSON", "mvt_tools.geojson", "write a vector tile as GeoJSON"),
     "mvt-page": ("PAGE", "mvt_tools.page", "look into vector tiles in the browser"),

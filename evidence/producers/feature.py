@@ -1,5 +1,10 @@
 """The features of a tile, as their integers, whatever is wrong with their geometry."""
 import dataclasses
+import pathlib
+import sys
+
+sys.path.insert(0, str(pathlib.Path(__file__).resolve().parents[2] / "tests/program"))
+from wire import field, packed
 
 
 def varint(data, at):
@@ -26,22 +31,6 @@ def fields(data):
         yield tag >> 3, value
 
 
-def spelled(number):
-    text = bytearray()
-    while number > 127:
-        text.append(number & 127 | 128)
-        number >>= 7
-    return bytes(text) + bytes([number])
-
-
-def packed(numbers):
-    return b"".join(map(spelled, numbers))
-
-
-def field(number, body):
-    return spelled(number << 3 | 2) + spelled(len(body)) + body
-
-
 def unzigzag(number):
     return (number >> 1) ^ -(number & 1)
 
@@ -61,8 +50,8 @@ class Feature:
 
     def tile(self):
         """A tile of this feature alone, without attributes."""
-        feature = spelled(0x18) + spelled(self.type) + field(4, packed(self.integers))
-        return field(3, b"\x78\x02" + field(1, self.layer.encode()) + field(2, feature) + b"\x28" + spelled(self.extent))
+        feature = field(3, self.type) + field(4, packed(self.integers))
+        return field(3, field(15, 2) + field(1, self.layer.encode()) + field(2, feature) + field(5, self.extent))
 
     def steps(self):
         """For each pair and each command without pairs: the index of the integer, the command, and the position behind it."""

@@ -5,28 +5,20 @@ viewer draws the rest of the tile."""
 import pathlib
 import sys
 
-sys.path.insert(0, str(pathlib.Path(__file__).parent.parent / "producers"))
-from feature import field, packed, spelled
+sys.path.insert(0, str(pathlib.Path(__file__).resolve().parents[2] / "tests/program"))
+from wire import field, packed, zigzag
 
 SAFE = 2**53 - 1
 
 
-def zigzag(number):
-    return 2 * number if number >= 0 else -2 * number - 1
-
-
-def numeral(number, value):
-    return spelled(number << 3) + spelled(value)
-
-
 def layer(name, features, extent=4096, entries=b""):
     """No extent where it is None; keys and values are spelled by the caller."""
-    head = numeral(15, 2) + field(1, name.encode())
-    return field(3, head + b"".join(field(2, f) for f in features) + entries + (b"" if extent is None else numeral(5, extent)))
+    head = field(15, 2) + field(1, name.encode())
+    return field(3, head + b"".join(field(2, f) for f in features) + entries + (b"" if extent is None else field(5, extent)))
 
 
 def geometry(kind, integers):
-    return numeral(3, kind) + field(4, packed(integers))
+    return field(3, kind) + field(4, packed(integers))
 
 
 def moves(places):
@@ -87,7 +79,7 @@ def tiles():
     yield "far-point-alone", tile([point(20000, 0)])
     yield "far-line-alone", tile([line((20000, 0), (20000, 100))])
     shown = line((1024, 1024), (3072, 1024), (1024, 3072))
-    yield "large-id", tile([numeral(1, SAFE + 1) + shown])
-    yield "largest-safe-id", tile([numeral(1, SAFE) + shown])
-    yield "large-number", tile([field(2, packed([0, 0])) + shown], 4096, number + field(4, numeral(5, SAFE + 1)))
-    yield "largest-safe-number", tile([field(2, packed([0, 0])) + shown], 4096, number + field(4, numeral(5, SAFE)))
+    yield "large-id", tile([field(1, SAFE + 1) + shown])
+    yield "largest-safe-id", tile([field(1, SAFE) + shown])
+    yield "large-number", tile([field(2, packed([0, 0])) + shown], 4096, number + field(4, field(5, SAFE + 1)))
+    yield "largest-safe-number", tile([field(2, packed([0, 0])) + shown], 4096, number + field(4, field(5, SAFE)))

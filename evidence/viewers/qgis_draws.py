@@ -1,6 +1,6 @@
 #!/usr/bin/python3
 """Draws a tile by QGIS, without a screen, and prints how many pixels its points, lines and polygons have, as JSON:
-qgis_draws.py TILE"""
+qgis_draws.py TILE [PICTURE], which then gets the picture"""
 import json
 import os
 import shutil
@@ -56,6 +56,8 @@ with tempfile.TemporaryDirectory() as room:
     Path(room, "0/0").mkdir(parents=True)
     shutil.copy(sys.argv[1], Path(room, "0/0/0.pbf"))
     image = picture(room)
+if sys.argv[2:]:
+    image.save(sys.argv[2])
 found = {name: {} for name in KINDS}
 names = {QColor(colour).rgb(): name for name, (_, colour) in KINDS.items()}
 for x in range(SIZE):

@@ -42,6 +42,13 @@ void mvt_findings_free(mvt_findings *findings) {
     memset(findings, 0, sizeof *findings);
 }
 
+void mvt_mended_free(mvt_mended *mended) {
+    if (mended == NULL) return;
+    give_back(mended->bytes.data, mended->bytes.len);
+    give_back(mended->changes, mended->change_count);
+    memset(mended, 0, sizeof *mended);
+}
+
 void mvt_surroundings_free(mvt_surroundings *surroundings) {
     if (surroundings == NULL) return;
     give_back(surroundings->keys, surroundings->key_count);

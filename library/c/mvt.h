@@ -167,6 +167,34 @@ typedef struct {
  * MVT_OK, MVT_REFUSED, MVT_NO_MEMORY, MVT_TOO_LARGE. */
 mvt_status mvt_rewrite(const uint8_t *bytes, size_t len, mvt_bytes *out, mvt_fault *fault);
 
+/* What mvt_mend changed. */
+typedef enum {
+    MVT_CHANGE_TURNED_RING = 1,     /* a ring is told in the other direction, from the same first point */
+    MVT_CHANGE_REPEATED_POINT = 2,  /* points of a line or ring that equal the one before them are left out */
+    MVT_CHANGE_PART_LEFT_OUT = 3,   /* a line or ring is left out: too few points are left, or its exterior ring is left out */
+    MVT_CHANGE_FEATURE_LEFT_OUT = 4 /* a feature is left out: none of its lines or rings is left */
+} mvt_change;
+
+/* A change. Places count from 0 in the tile as it was. What the kind doesn't speak of is 0. */
+typedef struct {
+    uint32_t kind;      /* an mvt_change */
+    uint64_t layer;     /* over layers of every version, as in an mvt_fault */
+    uint64_t feature;
+    uint64_t part;      /* a line, or a ring through all polygons of the feature */
+    uint64_t count;     /* of the points that are left out */
+} mvt_change_row;
+
+typedef struct {
+    mvt_bytes bytes;
+    const mvt_change_row *changes; size_t change_count;
+} mvt_mended;
+
+/* The canonical bytes of a tile in which the two rules are mended that producers break most: MVT_CAUSE_ZERO_SEGMENT and
+ * MVT_CAUSE_FIRST_RING. With them comes what was changed: of each feature its lines or rings in order, or that it is left out.
+ * A tile that keeps every rule is rewritten, and has no changes; one that breaks another rule too is refused with the fault
+ * that mvt_judge tells. Free the result with mvt_mended_free. MVT_OK, MVT_REFUSED, MVT_NO_MEMORY, MVT_TOO_LARGE. */
+mvt_status mvt_mend(const uint8_t *bytes, size_t len, mvt_mended *out, mvt_fault *fault);
+
 /* The canonical bytes of the named layers of version 2, in the order of the tile. A repeated name counts once; without
  * names the result has no layers. The names are checked before the bytes, so MVT_BAD_NAME comes first.
  * With MVT_NO_LAYER it writes `missing`, unless that is NULL: the index of the first name that no layer has.
@@ -544,8 +572,9 @@ typedef struct {
 
 /* What a person wants to see round a fault of refused bytes: the layer and the feature that it names, the integers of tags
  * and geometry with what they draw, and the fields round it. Takes any bytes and any fault, in a time and with a memory
- * that grow with the layer, or with the bytes if the fault is in no layer; an integer of one byte takes 48. Free it with
- * mvt_surroundings_free. MVT_OK, MVT_NO_MEMORY. */
+ * that grow with the layer, or with the bytes if the fault is in no layer: at most 72 bytes for each of them, which an integer of
+ * a geometry takes that has one byte, and 48 of what is handed out. So a tile of 8 MiB takes 604 MB at most, and one of 64 MiB
+ * 4.8 GB. Free it with mvt_surroundings_free. MVT_OK, MVT_NO_MEMORY. */
 mvt_status mvt_around(const uint8_t *bytes, size_t len, const mvt_fault *fault, mvt_surroundings *out);
 
 /* Free what a call put into `out`, and leave zeros there, so that a second call does nothing. NULL does nothing, here and in
@@ -554,6 +583,7 @@ void mvt_bytes_free(mvt_bytes *bytes);
 void mvt_tile_free(mvt_tile *tile);
 void mvt_summary_free(mvt_summary *summary);
 void mvt_findings_free(mvt_findings *findings);
+void mvt_mended_free(mvt_mended *mended);
 void mvt_surroundings_free(mvt_surroundings *surroundings);
 
 #ifdef __GNUC__

@@ -692,6 +692,21 @@ private:
     using owner::owner;
 };
 
+/// A tile that was mended: its canonical bytes, and what was changed in the order of the layers, features and parts.
+class mended : detail::owner<mvt_mended, mvt_mended_free> {
+public:
+    mended() noexcept = default;
+    /// Takes over what mvt_mend returned, and frees it.
+    [[nodiscard]] static mended adopt(const mvt_mended &held) noexcept { return mended(held); }
+    [[nodiscard]] std::span<const std::uint8_t> bytes() const & noexcept { return {held_.bytes.data, held_.bytes.len}; }
+    [[nodiscard]] std::span<const mvt_change_row> changes() const & noexcept { return {held_.changes, held_.change_count}; }
+    std::span<const std::uint8_t> bytes() const && = delete;
+    std::span<const mvt_change_row> changes() const && = delete;
+
+private:
+    using owner::owner;
+};
+
 /// How many layers and features a tile has, whether its bytes are canonical, and what is worth a look. Throws refused.
 [[nodiscard]] inline summary survey(input of) {
     mvt_summary out{};
@@ -706,6 +721,15 @@ private:
     mvt_fault fault{};
     require_ok(mvt_lint_rows(of.data(), of.size(), &out, &fault), fault, of);
     return findings::adopt(out);
+}
+
+/// A tile with the two rules mended that producers break most, ZeroSegment and FirstRing. A tile that keeps every rule comes as
+/// `rewrite` makes it. Throws refused, with the fault of the tile as it stands, where it breaks another rule too, and too_large.
+[[nodiscard]] inline mended mend(input of) {
+    mvt_mended out{};
+    mvt_fault fault{};
+    require_ok(mvt_mend(of.data(), of.size(), &out, &fault), fault, of);
+    return mended::adopt(out);
 }
 
 /// What there is round a fault. What can't be read isn't there; the layer's name points into the bytes that were given.

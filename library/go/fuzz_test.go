@@ -4,23 +4,19 @@ import (
 	"bytes"
 	"fmt"
 	"os"
-	"path/filepath"
 	"testing"
 
 	"huranvi.example/mvt"
 )
 
 // FuzzRead: any bytes have one verdict, and what is read is written and built as the canonical bytes. The environment may name
-// the folder of the example tiles (MVT_TILES), from which `go test -fuzz FuzzRead` begins.
+// files of cases (MVT_CASES), from whose tiles `go test -fuzz FuzzRead` begins.
 func FuzzRead(f *testing.F) {
-	paths, _ := filepath.Glob(filepath.Join(os.Getenv("MVT_TILES"), "*.mvt"))
-	for _, path := range paths {
-		tile, err := os.ReadFile(path)
-		if err != nil {
-			f.Fatal(err)
-		}
-		if len(tile) < 1<<16 {
-			f.Add(tile)
+	if os.Getenv("MVT_CASES") != "" {
+		for _, of := range cases(f) {
+			if len(of.tile) < 1<<16 {
+				f.Add(of.tile)
+			}
 		}
 	}
 	f.Fuzz(func(t *testing.T, input []byte) {

@@ -1,16 +1,11 @@
 package mvt_test
 
 import (
-	"bytes"
 	"errors"
 	"fmt"
 	"io"
-	"os"
-	"os/exec"
-	"path/filepath"
 	"reflect"
 	"runtime"
-	"strconv"
 	"strings"
 	"sync"
 	"testing"
@@ -19,36 +14,6 @@ import (
 
 	"huranvi.example/mvt"
 )
-
-// The environment names the program (MVT) and the folder of the example tiles, broken ones included (MVT_TILES).
-func tiles(t *testing.T) map[string][]byte {
-	t.Helper()
-	paths, err := filepath.Glob(filepath.Join(os.Getenv("MVT_TILES"), "*.mvt"))
-	if err != nil || len(paths) < 30 {
-		t.Fatalf("MVT_TILES names the folder of the example tiles: %d found, %v", len(paths), err)
-	}
-	found := map[string][]byte{}
-	for _, path := range paths {
-		if found[path], err = os.ReadFile(path); err != nil {
-			t.Fatal(err)
-		}
-	}
-	return found
-}
-
-// told is what the program says of a tile: its output, its errors and its status.
-func told(t *testing.T, tile []byte, words ...string) (string, string, int) {
-	t.Helper()
-	var out, why strings.Builder
-	run := exec.Command(os.Getenv("MVT"), words...)
-	run.Stdin, run.Stdout, run.Stderr = bytes.NewReader(tile), &out, &why
-	err := run.Run()
-	var ended *exec.ExitError
-	if err != nil && !errors.As(err, &ended) {
-		t.Fatal(err)
-	}
-	return out.String(), why.String(), run.ProcessState.ExitCode()
-}
 
 func must[T any](t *testing.T, err error, value T) T {
 	t.Helper()
@@ -63,71 +28,6 @@ func same(t *testing.T, name string, got, wanted any) {
 	if !reflect.DeepEqual(got, wanted) {
 		t.Fatalf("%s: %v, and not %v", name, got, wanted)
 	}
-}
-
-func TestEachTileIsAsTheProgramHasIt(t *testing.T) {
-	for path, tile := range tiles(t) {
-		if err := mvt.Judge(tile); err != nil {
-			refused(t, path, tile, err)
-		} else {
-			good(t, path, tile)
-		}
-	}
-}
-
-func good(t *testing.T, path string, tile []byte) {
-	t.Helper()
-	calls := map[string]func([]byte) (string, error){"check": mvt.Report, "lint": mvt.Lint, "show": mvt.ToJSON, "draw": mvt.ToSVG}
-	for command, call := range calls {
-		out, _, status := told(t, tile, command)
-		text, err := call(tile)
-		if command == "show" || command == "draw" {
-			text += "\n"
-		}
-		same(t, path+" "+command, must(t, err, text), out)
-		same(t, path+" "+command, status, 0)
-	}
-	remarked(t, path, tile)
-	out, _, _ := told(t, tile, "rewrite")
-	canonical, err := mvt.Rewrite(tile)
-	same(t, path, string(must(t, err, canonical)), out)
-	read, err := mvt.Read(tile)
-	written, wrong := must(t, err, read).Write()
-	same(t, path, string(must(t, wrong, written)), out)
-	decoder, err := mvt.NewDecoder()
-	must(t, err, decoder)
-	for rest := tile; len(rest) > 0; {
-		count, err := decoder.Write(rest[:1+(len(rest)-1)%7])
-		rest = rest[must(t, err, count):]
-	}
-	decoded, err := decoder.Finish()
-	same(t, path, shown(must(t, err, decoded)), shown(read))
-	for _, layer := range read.Layers() {
-		if layer.Version() != 2 {
-			continue
-		}
-		alone, err := mvt.ReadLayer(tile, layer.Name())
-		written, wrong := must(t, err, alone).Write()
-		extracted, err := mvt.Extract(tile, layer.Name())
-		same(t, path, must(t, err, extracted), must(t, wrong, written))
-		out, _, _ := told(t, tile, "extract", layer.Name())
-		same(t, path, string(extracted), out)
-	}
-	read.Close()
-}
-
-// remarked compares what is noted and found with what the program prints.
-func remarked(t *testing.T, path string, tile []byte) {
-	t.Helper()
-	check, _, _ := told(t, tile, "check")
-	lint, _, _ := told(t, tile, "lint")
-	survey, err := mvt.Survey(tile)
-	is := map[bool]string{true: "yes", false: "no"}[must(t, err, survey).IsCanonical]
-	first := fmt.Sprintf("ok layers %d features %d canonical %s\n", survey.Layers, survey.Features, is)
-	same(t, path, strings.HasPrefix(check, first), true)
-	same(t, path, len(survey.Notes), strings.Count(check, "\n")-1)
-	found, err := mvt.LintRows(tile)
-	same(t, path, len(must(t, err, found)), strings.Count(lint, "\n"))
 }
 
 func TestNotesAndFindings(t *testing.T) {
@@ -149,6 +49,26 @@ func TestNotesAndFindings(t *testing.T) {
 	same(t, "a fault", errors.As(err, &fault) && fault.Cause == mvt.CauseFieldNumber, true)
 }
 
+// TestMend mends the layer "a" with the ring (20, 34), (8, 12), (3, 6), whose area is negative.
+func TestMend(t *testing.T) {
+	broken := []byte("\x1a\x14\x78\x02\x0a\x01a\x12\x0d\x18\x03\x22\x09\x09\x28\x44\x12\x17\x2b\x09\x0b\x0f")
+	builder := mvt.NewBuilder().Layer("a", 4096).Feature(mvt.Polygons).Ring(true)
+	wanted, err := builder.Points(mvt.Point{X: 20, Y: 34}, mvt.Point{X: 3, Y: 6}, mvt.Point{X: 8, Y: 12}).Finish()
+	must(t, err, wanted)
+	mended, changes, err := mvt.Mend(broken)
+	same(t, "a mended tile", must(t, err, mended), wanted)
+	same(t, "changes", changes, []mvt.Change{{Kind: mvt.ChangeTurnedRing}})
+	same(t, "its line", changes[0].String(), "layer 0 feature 0: TurnedRing 0")
+	same(t, "lines", fmt.Sprint(mvt.Change{Kind: mvt.ChangeRepeatedPoint, Part: 1, Count: 2}, mvt.Change{Kind: mvt.ChangeFeatureLeftOut}),
+		"layer 0 feature 0: RepeatedPoint 1 count 2 layer 0 feature 0: FeatureLeftOut")
+	mended, changes, err = mvt.Mend(wanted)
+	same(t, "nothing to mend", string(must(t, err, mended)), string(wanted))
+	same(t, "no changes", len(changes), 0)
+	var fault *mvt.Refused
+	_, _, err = mvt.Mend([]byte{0})
+	same(t, "a fault", errors.As(err, &fault) && fault.Cause == mvt.CauseFieldNumber, true)
+}
+
 // TestAround looks at the layer "a" with a line whose second step goes nowhere.
 func TestAround(t *testing.T) {
 	tile := []byte("\x1a\x12\x78\x02\x0a\x01a\x12\x0b\x18\x02\x22\x07\x09\x04\x04\x0a\x00\x00\x00")
@@ -165,60 +85,6 @@ func TestAround(t *testing.T) {
 	same(t, "fields", told.Fields, []mvt.Field{{3, 0, mvt.Bounds{9, 10, 11}}, {4, 2, mvt.Bounds{11, 13, 20}}})
 	told, err = mvt.Around(nil, &mvt.Refused{Layer: 3, Feature: -1, At: 9})
 	same(t, "nothing", must(t, err, told).Layer == nil && len(told.Fields) == 0, true)
-}
-
-// explained says whether what is said of a fault, and its bytes, are lines of what the program explains.
-func explained(t *testing.T, path string, tile []byte, fault *mvt.Refused) {
-	t.Helper()
-	out, _, _ := told(t, tile, "explain")
-	start, end, known := fault.Place()
-	same(t, path+" place", known, true)
-	place := fmt.Sprintf("bytes %d to %d", start, end-1)
-	if start == end {
-		place = fmt.Sprintf("before byte %d", start)
-	} else if start+1 == end {
-		place = fmt.Sprintf("byte %d", start)
-	}
-	isPlaced, isSaid := false, false
-	for _, line := range strings.Split(out, "\n") {
-		isPlaced = isPlaced || line == place || strings.HasPrefix(line, place+",")
-		isSaid = isSaid || line == fault.Explanation
-	}
-	if !isPlaced || !isSaid {
-		t.Fatalf("%s: %s: %s: %s", path, place, fault.Explanation, out)
-	}
-}
-
-func refused(t *testing.T, path string, tile []byte, err error) {
-	t.Helper()
-	_, why, status := told(t, tile, "check")
-	same(t, path, status, 1)
-	var fault *mvt.Refused
-	if !errors.As(err, &fault) {
-		t.Fatalf("%s: %v", path, err)
-	}
-	same(t, path, fault.Line()+"\n", why)
-	same(t, path, err.Error(), fault.Line()+": "+fault.Explanation)
-	explained(t, path, tile, fault)
-	for _, call := range []func([]byte) (string, error){mvt.Report, mvt.ToJSON, mvt.ToSVG} {
-		_, other := call(tile)
-		same(t, path, other, err)
-	}
-	_, other := mvt.Read(tile)
-	same(t, path, other, err)
-	_, other = mvt.Survey(tile)
-	same(t, path, other, err)
-	_, other = mvt.LintRows(tile)
-	same(t, path, other, err)
-	decoder, wrong := mvt.NewDecoder()
-	_, told := io.Copy(must(t, wrong, decoder), iotest.HalfReader(bytes.NewReader(tile)))
-	_, other = decoder.Finish()
-	if told != nil {
-		same(t, path, told, other)
-	}
-	var last *mvt.Refused
-	same(t, path, errors.As(other, &last), true)
-	same(t, path, last.Line(), fault.Line())
 }
 
 // shown is all of a tile, in words.
@@ -327,8 +193,12 @@ func TestKeysAndValuesByTheirIndices(t *testing.T) {
 
 // Each language's builder makes the same bytes of values of all kinds, and what was read is what is built.
 func TestEachKindOfValue(t *testing.T) {
-	wanted, err := os.ReadFile(filepath.Join(os.Getenv("MVT_TILES"), "kinds.mvt"))
-	must(t, err, wanted)
+	var wanted []byte
+	for _, of := range cases(t) {
+		if of.name == "kinds" {
+			wanted = of.tile
+		}
+	}
 	builder := mvt.NewBuilder()
 	builder.Layer("a", 4096).Feature(mvt.Points).Point(25, 17)
 	builder.Tag("s", "x").Tag("f", float32(2.5)).Tag("d", 3.5).Tag("i", mvt.Int(-5)).Tag("p", mvt.Int(5))
@@ -530,50 +400,39 @@ func TestTilesThatAreNotClosed(t *testing.T) {
 	}
 }
 
-// Tiles with changed bytes, read by several goroutines. MVT_CHANGED says how many there are.
-func TestChangedTilesFromSeveralGoroutines(t *testing.T) {
-	count, err := strconv.Atoi(os.Getenv("MVT_CHANGED"))
-	if err != nil {
-		count = 1000
-	}
-	var small [][]byte
-	for _, tile := range tiles(t) {
-		if len(tile) > 0 && len(tile) < 100_000 {
-			small = append(small, tile)
-		}
-	}
-	var all sync.WaitGroup
+// The tiles of all cases, changed ones among them, read by several goroutines.
+func TestTilesFromSeveralGoroutines(t *testing.T) {
+	all := cases(t)
+	var done sync.WaitGroup
 	for first := 0; first < 4; first++ {
-		all.Add(1)
+		done.Add(1)
 		go func(first int) {
-			defer all.Done()
-			for number := first; number < count; number += 4 {
-				changed(t, small[number%len(small)], uint64(number))
+			defer done.Done()
+			for number := first; number < len(all); number += 4 {
+				readAgain(t, &all[number])
 			}
 		}(first)
 	}
-	all.Wait()
+	done.Wait()
 }
 
-func changed(t *testing.T, tile []byte, number uint64) {
-	broken := append([]byte(nil), tile...)
-	chance := number * 0x9e3779b97f4a7c15
-	broken[(chance>>16)%uint64(len(broken))] ^= byte(chance >> 8)
-	read, err := mvt.Read(broken)
+// readAgain writes what is read, and reads it again as it was.
+func readAgain(t *testing.T, of *told) {
+	read, err := mvt.Read(of.tile)
 	if err != nil {
 		var fault *mvt.Refused
 		if !errors.As(err, &fault) {
-			t.Error(err)
+			t.Errorf("%s: %v", of.name, err)
 		}
 		return
 	}
 	written, err := read.Write()
 	if err != nil {
-		t.Error(err)
+		t.Errorf("%s: %v", of.name, err)
 		return
 	}
 	again, err := mvt.Read(written)
 	if err != nil || shown(again) != shown(read) {
-		t.Errorf("tile %d isn't read again as it was: %v", number, err)
+		t.Errorf("%s isn't read again as it was: %v", of.name, err)
 	}
 }

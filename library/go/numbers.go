@@ -74,6 +74,21 @@ var findingNames = map[FindingKind]string{
 	FindingLargeNumber:     "LargeNumber",
 }
 
+// The changes.
+const (
+	ChangeTurnedRing     ChangeKind = 1
+	ChangeRepeatedPoint  ChangeKind = 2
+	ChangePartLeftOut    ChangeKind = 3
+	ChangeFeatureLeftOut ChangeKind = 4
+)
+
+var changeNames = map[ChangeKind]string{
+	ChangeTurnedRing:     "TurnedRing",
+	ChangeRepeatedPoint:  "RepeatedPoint",
+	ChangePartLeftOut:    "PartLeftOut",
+	ChangeFeatureLeftOut: "FeatureLeftOut",
+}
+
 // The roles.
 const (
 	RoleNothing   Role = 0

@@ -20,6 +20,7 @@ if _find_spec("._mvt", __name__) is None:
 
 from ._around import Around, around
 from ._errors import MvtError, NoLayer, NoTile, OutOfRange, Refused, TooLarge
+from ._mending import Change, Mended, mend
 from ._mvt import (
     Builder,
     Decoder,
@@ -82,6 +83,7 @@ __all__ = [
     "Buffer",
     "Builder",
     "CAUSES",
+    "Change",
     "Decoder",
     "Feature",
     "FeatureRow",
@@ -94,6 +96,7 @@ __all__ = [
     "Layer",
     "LayerRow",
     "MadeLayer",
+    "Mended",
     "MvtError",
     "NoLayer",
     "NoTile",
@@ -121,6 +124,7 @@ __all__ = [
     "judge",
     "lint",
     "looks_like",
+    "mend",
     "read",
     "read_layer",
     "report",

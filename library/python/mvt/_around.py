@@ -115,11 +115,11 @@ class Around:
     kind: Optional[int]
     message: Bounds
     list: Optional[str]
-    keys: Sequence[Bounds]
-    tags: Sequence[Integer]
-    geometry: Sequence[Integer]
+    keys: _Rows[Bounds]
+    tags: _Rows[Integer]
+    geometry: _Rows[Integer]
     steps: _Rows[Step]
-    fields: Sequence[Field]
+    fields: _Rows[Field]
 
     @property
     def roles(self) -> bytes:

@@ -8,8 +8,8 @@ class MvtError(Exception):
 
 
 class Refused(MvtError):
-    """The first rule that a tile breaks. Its text is `line`, which the program `mvt` prints, and `explanation`, the fault in
-    words.
+    """The first rule that a tile breaks. Its text is `line`, which the program `mvt` prints, and `explanation`: `sentence`, the
+    fault in words, behind the names of its layer and its feature.
 
     `layer` and `feature` are indices, or None for a fault outside a layer or a feature. `at` is an offset in the
     tile, or an index in the tags or integers of the feature. `cause` is the cause's number and `name` its name.
@@ -34,7 +34,7 @@ class Refused(MvtError):
         super().__init__(layer, feature, at, cause, name, sentence, layer_name, feature_id, start, end)
         self.layer, self.feature, self.at, self.cause, self.name = layer, feature, at, cause, name
         self.layer_name, self.feature_id = layer_name, feature_id
-        self.start, self.end = start, end
+        self.start, self.end, self.sentence = start, end, sentence
         self.explanation = ": ".join(filter(None, [self._where(), sentence]))
 
     def _where(self) -> str:

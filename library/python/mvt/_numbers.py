@@ -51,6 +51,13 @@ FINDINGS = {
     6: "LargeNumber",
 }
 
+CHANGES = {
+    1: "TurnedRing",
+    2: "RepeatedPoint",
+    3: "PartLeftOut",
+    4: "FeatureLeftOut",
+}
+
 LOOKALIKES = {
     1: "Gzip",
     2: "Zlib",

@@ -2,6 +2,7 @@
 
 from dataclasses import dataclass
 from itertools import chain
+from struct import Struct
 from typing import Any, Dict, List, Optional, Sequence, Tuple, Union
 
 from ._mvt import finding_text, lint_rows, lookalike, note_text, report_lines, survey_rows
@@ -20,6 +21,8 @@ _OF_NOTE = {
     "ClosedTwice": ("layer", "feature", "ring"),
 }
 _NUMBERS = {name: number for numbers in (NOTES, FINDINGS) for number, name in numbers.items()}
+# Their rows, as mvt.h has them.
+_NOTE_ROW, _FINDING_ROW = Struct("<IIQQQQ"), Struct("<IIQQQii")
 
 
 @dataclass(frozen=True)
@@ -124,7 +127,7 @@ def survey(tile: _Buffer) -> Survey:
     Raises Refused.
     """
     layers, features, canonical, notes = survey_rows(tile)
-    return Survey(layers, features, canonical, list(map(note_of, notes)))
+    return Survey(layers, features, canonical, list(map(note_of, _NOTE_ROW.iter_unpack(notes))))
 
 
 def report(tile: _Buffer) -> Report:
@@ -142,7 +145,7 @@ def lint(tile: _Buffer) -> List[Finding]:
 
     What is found breaks no rule: `judge` accepts such a tile. Raises Refused.
     """
-    return list(map(finding_of, lint_rows(tile)))
+    return list(map(finding_of, _FINDING_ROW.iter_unpack(lint_rows(tile))))
 
 
 def looks_like(tile: _Buffer) -> Optional[str]:

@@ -16,11 +16,6 @@ static PyObject *number_or_none(uint32_t is_there, uint64_t number) {
     return is_there ? PyLong_FromUnsignedLongLong(number) : none();
 }
 
-/* The rows of a list as bytes. */
-static PyObject *rows_told(const void *rows, size_t count, size_t size) {
-    return PyBytes_FromStringAndSize(count == 0 ? "" : (const char *)rows, (Py_ssize_t)(count * size));
-}
-
 static PyObject *surroundings_told(const mvt_surroundings *of) {
     return Py_BuildValue("(NNNNNkNNNNN)", bounds_or_none(of->has_layer, of->layer), number_or_none(of->has_extent, of->extent),
                          bounds_or_none(of->has_feature, of->feature), number_or_none(of->has_kind, of->kind),

@@ -74,57 +74,45 @@ static PyObject *add_feature(PyObject *self, PyObject *words, PyObject *named) {
     return itself(self, build_feature(to(self), kind, id));
 }
 
-static PyObject *add_tag(PyObject *self, PyObject *words, PyObject *named) {
+/* An attribute, of the words that `as` says. */
+static PyObject *tagged(PyObject *self, PyObject *words, PyObject *named, const char *as, int (*add)(building *, PyObject *, PyObject *)) {
     static char *known[] = {"key", "value", NULL};
     PyObject *key, *value;
-    if (!PyArg_ParseTupleAndKeywords(words, named, "OO:tag", known, &key, &value)) return NULL;
-    return itself(self, build_tag(to(self), key, value));
+    if (!PyArg_ParseTupleAndKeywords(words, named, as, known, &key, &value)) return NULL;
+    return itself(self, add(to(self), key, value));
 }
 
-static PyObject *add_tag_at(PyObject *self, PyObject *words, PyObject *named) {
-    static char *known[] = {"key", "value", NULL};
-    PyObject *key, *value;
-    if (!PyArg_ParseTupleAndKeywords(words, named, "OO:tag_at", known, &key, &value)) return NULL;
-    return itself(self, build_tag_at(to(self), key, value));
-}
+static PyObject *add_tag(PyObject *self, PyObject *words, PyObject *named) { return tagged(self, words, named, "OO:tag", build_tag); }
+static PyObject *add_tag_at(PyObject *self, PyObject *words, PyObject *named) { return tagged(self, words, named, "OO:tag_at", build_tag_at); }
 
 static PyObject *add_point(PyObject *self, PyObject *words, PyObject *named) {
     static char *known[] = {"x", "y", NULL};
     PyObject *x, *y;
     if (!PyArg_ParseTupleAndKeywords(words, named, "OO:point", known, &x, &y)) return NULL;
     PyObject *points = Py_BuildValue("((OO))", x, y);
-    const int status = points == NULL ? -1 : build_points(to(self), points);
+    const int status = points == NULL ? -1 : build_drawn(to(self), MVT_POINTS, 0, points);
     Py_XDECREF(points);
     return itself(self, status);
 }
 
-static PyObject *add_points(PyObject *self, PyObject *words, PyObject *named) {
-    static char *known[] = {"points", NULL};
-    PyObject *points;
-    if (!PyArg_ParseTupleAndKeywords(words, named, "O:points", known, &points)) return NULL;
-    return itself(self, build_points(to(self), points));
+/* Points, a line or integers, of the one word that `as` says. */
+static PyObject *drawn(PyObject *self, PyObject *words, PyObject *named, const char *as, int kind) {
+    static char *known[][2] = {{"integers", NULL}, {"points", NULL}};
+    PyObject *given;
+    if (!PyArg_ParseTupleAndKeywords(words, named, as, known[kind != MVT_UNKNOWN], &given)) return NULL;
+    return itself(self, build_drawn(to(self), kind, 0, given));
 }
 
-static PyObject *add_line(PyObject *self, PyObject *words, PyObject *named) {
-    static char *known[] = {"points", NULL};
-    PyObject *points;
-    if (!PyArg_ParseTupleAndKeywords(words, named, "O:line", known, &points)) return NULL;
-    return itself(self, build_part(to(self), MVT_LINES, 0, points));
-}
+static PyObject *add_points(PyObject *self, PyObject *words, PyObject *named) { return drawn(self, words, named, "O:points", MVT_POINTS); }
+static PyObject *add_line(PyObject *self, PyObject *words, PyObject *named) { return drawn(self, words, named, "O:line", MVT_LINES); }
+static PyObject *add_integers(PyObject *self, PyObject *words, PyObject *named) { return drawn(self, words, named, "O:integers", MVT_UNKNOWN); }
 
 static PyObject *add_ring(PyObject *self, PyObject *words, PyObject *named) {
     static char *known[] = {"points", "exterior", NULL};
     PyObject *points;
     int exterior;
     if (!PyArg_ParseTupleAndKeywords(words, named, "Op:ring", known, &points, &exterior)) return NULL;
-    return itself(self, build_part(to(self), MVT_POLYGONS, exterior, points));
-}
-
-static PyObject *add_integers(PyObject *self, PyObject *words, PyObject *named) {
-    static char *known[] = {"integers", NULL};
-    PyObject *integers;
-    if (!PyArg_ParseTupleAndKeywords(words, named, "O:integers", known, &integers)) return NULL;
-    return itself(self, build_integers(to(self), integers));
+    return itself(self, build_drawn(to(self), MVT_POLYGONS, exterior, points));
 }
 
 static PyObject *drop(PyObject *self, PyObject *unused) {

@@ -1,5 +1,5 @@
-/* A tile that is built: what Python gives is made numbers and texts first, and then handed to the library's builder,
- * with one call for many points. So what can't be taken is raised before anything is added. */
+/* A tile that is built: what Python gives is made numbers and texts first, so that what can't be taken is raised before
+ * anything is added. A feature is gathered here, and handed to the library's builder as one. */
 #include "module.h"
 
 static int raise_status(const building *to, uint32_t status) { return raise_for(to->of, status, NULL, NULL, 0, 0); }
@@ -41,62 +41,85 @@ static PyObject *error_taken(const state *of, PyObject **class) {
     return told;
 }
 
-/* Raises the error again, with the place, which this takes a reference of and which may be NULL after another error. */
-static int raise_at(const building *to, PyObject *place) {
-    PyObject *class, *told = place == NULL ? NULL : error_taken(to->of, &class);
-    if (told != NULL) PyErr_Format(class, "%U: %U", place, told);
+/* Raises the error again, with the place: the layer, by a name or a version, the feature, whose number is -1 where there is
+ * none, and what of it, with its name where it has one. */
+static int raise_at(const building *to, const char *layer, PyObject *called, int64_t feature, const char *what, PyObject *name) {
+    PyObject *class = NULL, *told = error_taken(to->of, &class), *quoted = NULL;
+    char number[32] = "";
+    if (feature >= 0) snprintf(number, sizeof number, ", feature %lld", (long long)feature);
+    if (told != NULL && name != NULL) quoted = PyObject_Repr(name);
+    if (told != NULL && (name == NULL || quoted != NULL))
+        PyErr_Format(class, "%s %R%s%s%s%s%V: %U", layer, called, number, what[0] == '\0' ? "" : ", ", what,
+                     name == NULL ? "" : " ", quoted, "", told);
+    Py_XDECREF(quoted);
     Py_XDECREF(told);
-    Py_XDECREF(place);
     return -1;
 }
 
-/* An error is set while a place is told, and mustn't be lost. */
-typedef struct {
-    PyObject *type, *value, *traceback;
-} kept;
-
-static kept keep(void) {
-    kept error;
-    PyErr_Fetch(&error.type, &error.value, &error.traceback);
-    return error;
+/* In the layer, and the feature if one is begun. */
+static int raise_here(const building *to, const char *what, PyObject *name) {
+    return raise_at(to, "layer", to->layer, to->in_feature ? (int64_t)to->ended : -1, what, name);
 }
 
-/* Sets the error again, or drops it where telling the place failed. */
-static PyObject *restored(kept error, PyObject *place) {
-    if (place != NULL) {
-        PyErr_Restore(error.type, error.value, error.traceback);
-        return place;
+/* What is gathered */
+
+/* Room for so many more items at the end of a list; NULL with an error where there is none. */
+static void *more(gathered *list, size_t size, size_t count) {
+    if (list->room - list->count < count) {
+        const size_t room = list->count + count + list->room / 2 + 8;
+        void *items = PyMem_Realloc(list->items, room * size);
+        if (items == NULL) return PyErr_NoMemory();
+        list->items = items, list->room = room;
     }
-    Py_XDECREF(error.type);
-    Py_XDECREF(error.value);
-    Py_XDECREF(error.traceback);
-    return NULL;
+    list->count += count;
+    return (char *)list->items + (list->count - count) * size;
 }
 
-/* The layer, and the feature if one is begun, or is to be: `feature` is its number, or -1. */
-static PyObject *place(const building *to, int64_t feature, const char *what, PyObject *name) {
-    const kept error = keep();
-    PyObject *told = feature < 0 ? PyUnicode_FromFormat("layer %R", to->layer)
-                                 : PyUnicode_FromFormat("layer %R, feature %lld", to->layer, (long long)feature);
-    if (told != NULL && what != NULL) {
-        PyObject *more = name == NULL ? PyUnicode_FromFormat("%U, %s", told, what)
-                                      : PyUnicode_FromFormat("%U, %s %R", told, what, name);
-        Py_DECREF(told);
-        told = more;
+static int gather(gathered *list, size_t size, const void *items, size_t count) {
+    void *to = count == 0 ? NULL : more(list, size, count);
+    if (to != NULL) memcpy(to, items, count * size);
+    return count == 0 || to != NULL ? 0 : -1;
+}
+
+/* Adds to the geometry: integers, or points, which begin a part, but for the points of a feature of points. */
+static int gather_drawn(building *to, uint32_t exterior, const void *items, size_t count) {
+    if (to->kind == MVT_UNKNOWN) return gather(&to->integers, sizeof(uint32_t), items, count);
+    if (to->kind == MVT_POINTS && count == 0) return 0;
+    if (to->kind != MVT_POINTS || to->parts.count == 0) {
+        const mvt_part part = {exterior, {to->points.count, 0}};
+        if (gather(&to->parts, sizeof part, &part, 1) < 0) return -1;
     }
-    return restored(error, told);
+    mvt_part *last = (mvt_part *)to->parts.items + to->parts.count - 1;
+    if (gather(&to->points, sizeof(mvt_point), items, count) < 0) {
+        to->parts.count -= last->points.len == 0;
+        return -1;
+    }
+    last->points.len += count;
+    return 0;
 }
 
-static PyObject *here(const building *to, const char *what, PyObject *name) {
-    return place(to, to->in_feature ? (int64_t)to->ended : -1, what, name);
-}
-
-static PyObject *next_here(const building *to, const char *what) {
-    return place(to, (int64_t)to->ended + (to->in_feature ? 1 : 0), what, NULL);
+/* Hands over the feature that is gathered, if there is one, or nothing of it. What fails is told by the calls after it. */
+static uint32_t end_feature(building *to) {
+    const uint64_t *id = to->has_id ? &to->id : NULL;
+    const uint32_t *tags = to->tags.items;
+    uint32_t status = MVT_OK;
+    if (!to->in_feature) return status;
+    if (to->kind != MVT_UNKNOWN) {
+        status = mvt_builder_add(&to->rows, (mvt_kind)to->kind, id, tags, to->tags.count, to->parts.items, to->parts.count,
+                                 to->points.items, to->points.count);
+    } else {
+        status = mvt_builder_feature(&to->rows, MVT_UNKNOWN);
+        if (id != NULL) status = mvt_builder_id(&to->rows, *id);
+        for (size_t at = 0; at < to->tags.count; at += 2) status = mvt_builder_tag_at(&to->rows, tags[at], tags[at + 1]);
+        if (to->integers.count != 0) status = mvt_builder_integers(&to->rows, to->integers.items, to->integers.count);
+    }
+    to->in_feature = 0, to->ended += 1;
+    return status;
 }
 
 /* Layers, keys and values */
 
+/* Begins a layer, or none. */
 static void begin_layer(building *to, PyObject *name) {
     PyObject *before = to->layer;
     Py_XINCREF(name);
@@ -109,11 +132,11 @@ int build_layer(building *to, PyObject *name, PyObject *extent) {
     PyObject *bytes = encoded(to->of, name);
     if (bytes == NULL || (extent != NULL && number_given(extent, UINT32_MAX, &told) < 0)) {
         Py_XDECREF(bytes);
-        const kept error = keep();
-        return raise_at(to, restored(error, PyUnicode_FromFormat("layer %R", name)));
+        return raise_at(to, "layer", name, -1, "", NULL);
     }
     mvt_bytes lent;
     lent.data = content_of(bytes, &lent.len);
+    end_feature(to);
     const int status = raise_status(to, mvt_builder_layer(&to->rows, lent, (uint32_t)told));
     if (status == 0) begin_layer(to, name);
     Py_DECREF(bytes);
@@ -123,16 +146,14 @@ int build_layer(building *to, PyObject *name, PyObject *extent) {
 int build_foreign(building *to, PyObject *version, PyObject *content) {
     uint64_t told;
     PyObject *bytes = number_given(version, UINT32_MAX, &told) < 0 ? NULL : bytes_of(content);
-    if (bytes == NULL) {
-        const kept error = keep();
-        return raise_at(to, restored(error, PyUnicode_FromFormat("layer of version %R", version)));
-    }
+    if (bytes == NULL) return raise_at(to, "layer of version", version, -1, "", NULL);
     mvt_bytes lent;
     lent.data = content_of(bytes, &lent.len);
     int status = -1;
     if (told == 2) {
         PyErr_SetString(to->of->no_tile, "a layer of version 2 isn't made of bytes");
     } else {
+        end_feature(to);
         status = raise_status(to, mvt_builder_foreign(&to->rows, (uint32_t)told, lent));
     }
     if (status == 0) begin_layer(to, NULL);
@@ -147,10 +168,10 @@ int build_at(building *to, PyObject *text, PyObject *value, uint32_t *index) {
     PyObject *bytes = NULL;
     if (text != NULL) {
         bytes = encoded(to->of, text);
-        if (bytes == NULL) return raise_at(to, here(to, "key", text));
+        if (bytes == NULL) return raise_here(to, "key", text);
         any.text.data = content_of(bytes, &any.text.len);
     } else if (value_given(to->of, value, &any, &bytes) < 0) {
-        return raise_at(to, here(to, NULL, NULL));
+        return raise_here(to, "", NULL);
     }
     int status = need_layer(to);
     if (status == 0)
@@ -177,14 +198,13 @@ int build_feature(building *to, PyObject *kind_named, PyObject *id) {
     if (need_layer(to) < 0) return -1;
     uint64_t number = 0;
     const int kind = kind_given(to, kind_named);
-    if (kind < 0) return raise_at(to, next_here(to, NULL));
-    if (id != Py_None && number_given(id, UINT64_MAX, &number) < 0) return raise_at(to, next_here(to, "id"));
+    const int is_wrong = kind < 0 || (id != Py_None && number_given(id, UINT64_MAX, &number) < 0);
+    if (is_wrong) return raise_at(to, "layer", to->layer, (int64_t)to->ended + to->in_feature, kind < 0 ? "" : "id", NULL);
     if (need_layer(to) < 0) return -1;
-    uint32_t status = mvt_builder_feature(&to->rows, (mvt_kind)kind);
-    if (status == MVT_OK && id != Py_None) status = mvt_builder_id(&to->rows, number);
+    const uint32_t status = end_feature(to);
     if (status != MVT_OK) return raise_status(to, status);
-    to->ended += (uint64_t)to->in_feature;
-    to->in_feature = 1, to->kind = kind;
+    to->tags.count = to->parts.count = to->points.count = to->integers.count = 0;
+    to->in_feature = 1, to->kind = kind, to->has_id = id != Py_None, to->id = number;
     return 0;
 }
 
@@ -192,15 +212,18 @@ int build_tag(building *to, PyObject *key, PyObject *value) {
     if (need_layer(to) < 0 || need_feature(to, -1) < 0) return -1;
     mvt_any any;
     mvt_bytes lent;
+    uint32_t pair[2];
     PyObject *text, *bytes = NULL;
     if (value_given(to->of, value, &any, &text) == 0) bytes = encoded(to->of, key);
     int status;
     if (bytes == NULL) {
-        status = raise_at(to, here(to, "key", key));
+        status = raise_here(to, "key", key);
     } else {
         lent.data = content_of(bytes, &lent.len);
         status = need_feature(to, -1);
-        if (status == 0) status = raise_status(to, mvt_builder_tag(&to->rows, lent, any));
+        if (status == 0) status = raise_status(to, mvt_builder_key(&to->rows, lent, &pair[0]));
+        if (status == 0) status = raise_status(to, mvt_builder_value(&to->rows, any, &pair[1]));
+        if (status == 0) status = gather(&to->tags, sizeof *pair, pair, 2);
     }
     Py_XDECREF(bytes);
     Py_XDECREF(text);
@@ -211,57 +234,32 @@ int build_tag_at(building *to, PyObject *key, PyObject *value) {
     if (need_feature(to, -1) < 0) return -1;
     uint64_t key_at, value_at;
     if (number_given(key, UINT32_MAX, &key_at) < 0 || number_given(value, UINT32_MAX, &value_at) < 0)
-        return raise_at(to, here(to, NULL, NULL));
-    if (need_feature(to, -1) < 0) return -1;
-    return raise_status(to, mvt_builder_tag_at(&to->rows, (uint32_t)key_at, (uint32_t)value_at));
+        return raise_here(to, "", NULL);
+    const uint32_t pair[] = {(uint32_t)key_at, (uint32_t)value_at};
+    return need_feature(to, -1) < 0 ? -1 : gather(&to->tags, sizeof *pair, pair, 2);
 }
 
-int build_points(building *to, PyObject *given) {
-    if (need_feature(to, MVT_POINTS) < 0) return -1;
-    mvt_point *points;
-    size_t count;
-    if (points_given(given, &points, &count) < 0) return raise_at(to, here(to, "geometry", NULL));
-    int status = need_feature(to, MVT_POINTS);
-    if (status == 0 && count != 0) status = raise_status(to, mvt_builder_points(&to->rows, points, count));
-    PyMem_Free(points);
-    return status;
-}
-
-/* A line or a ring. */
-int build_part(building *to, int kind, int exterior, PyObject *given) {
+/* Points, a line, a ring, or integers of a feature of this kind. */
+int build_drawn(building *to, int kind, int exterior, PyObject *given) {
     if (need_feature(to, kind) < 0) return -1;
-    mvt_point *points;
+    void *items;
     size_t count;
-    if (points_given(given, &points, &count) < 0) return raise_at(to, here(to, "geometry", NULL));
+    if ((kind == MVT_UNKNOWN ? integers_given : points_given)(given, &items, &count) < 0) return raise_here(to, "geometry", NULL);
     int status = need_feature(to, kind);
-    if (status == 0) {
-        uint32_t said = kind == MVT_LINES ? mvt_builder_line(&to->rows) : mvt_builder_ring(&to->rows, exterior);
-        if (said == MVT_OK && count != 0) said = mvt_builder_points(&to->rows, points, count);
-        status = raise_status(to, said);
-    }
-    PyMem_Free(points);
-    return status;
-}
-
-int build_integers(building *to, PyObject *given) {
-    if (need_feature(to, MVT_UNKNOWN) < 0) return -1;
-    uint32_t *integers;
-    size_t count;
-    if (integers_given(given, &integers, &count) < 0) return raise_at(to, here(to, "geometry", NULL));
-    int status = need_feature(to, MVT_UNKNOWN);
-    if (status == 0 && count != 0) status = raise_status(to, mvt_builder_integers(&to->rows, integers, count));
-    PyMem_Free(integers);
+    if (status == 0) status = gather_drawn(to, exterior != 0, items, count);
+    PyMem_Free(items);
     return status;
 }
 
 int build_drop(building *to) {
-    if (need_feature(to, -1) < 0 || raise_status(to, mvt_builder_drop(&to->rows)) < 0) return -1;
+    if (need_feature(to, -1) < 0) return -1;
     to->in_feature = 0;
     return 0;
 }
 
 /* The rows of the tile so far, which stay the builder's. Ends the layer. */
 int build_rows(building *to, mvt_tile *rows) {
+    end_feature(to);
     if (raise_status(to, mvt_builder_rows(&to->rows, rows)) < 0) return -1;
     begin_layer(to, NULL);
     return 0;
@@ -270,6 +268,7 @@ int build_rows(building *to, mvt_tile *rows) {
 /* The canonical bytes. The builder begins anew, whatever comes of it; what another thread adds meanwhile is of the next
  * tile. */
 PyObject *build_finish(building *to) {
+    end_feature(to);
     mvt_builder last = to->rows;
     mvt_bytes out = {NULL, 0};
     mvt_rows_fault wrong = {0};
@@ -284,5 +283,9 @@ PyObject *build_finish(building *to) {
 
 void build_end(building *to) {
     mvt_builder_free(&to->rows);
+    PyMem_Free(to->tags.items);
+    PyMem_Free(to->parts.items);
+    PyMem_Free(to->points.items);
+    PyMem_Free(to->integers.items);
     Py_CLEAR(to->layer);
 }

@@ -121,11 +121,32 @@ static PyObject *judge(PyObject *module, PyObject *words, PyObject *named) {
 /* A call that makes bytes of a tile. */
 typedef mvt_status making(const uint8_t *bytes, size_t len, mvt_bytes *out, mvt_fault *fault);
 
-static PyObject *as_bytes(mvt_bytes made) { return PyBytes_FromStringAndSize((const char *)made.data, (Py_ssize_t)made.len); }
-static PyObject *as_text(mvt_bytes made) { return text_or_none(1, made); }
+/* What is handed out of the bytes that it made. */
+typedef PyObject *handing(state *of, mvt_bytes *made);
+
+static PyObject *as_bytes(state *of, mvt_bytes *made) {
+    (void)of;
+    return PyBytes_FromStringAndSize((const char *)made->data, (Py_ssize_t)made->len);
+}
+
+static PyObject *as_text(state *of, mvt_bytes *made) {
+    (void)of;
+    return text_or_none(1, *made);
+}
+
+/* The bytes themselves, which are taken over. */
+static PyObject *as_lent(state *of, mvt_bytes *made) {
+    held *owner = new_held(of);
+    if (owner == NULL) return NULL;
+    owner->tile.texts = made->data, owner->tile.text_len = made->len;
+    *made = (mvt_bytes){NULL, 0};
+    PyObject *lent = lent_of(of, (PyObject *)owner, owner->tile.texts, owner->tile.text_len);
+    Py_DECREF(owner);
+    return lent;
+}
 
 /* What a call makes of the tile that is the one word. */
-static PyObject *made_of(PyObject *module, PyObject *words, PyObject *named, making *call, PyObject *(*as)(mvt_bytes)) {
+static PyObject *made_of(PyObject *module, PyObject *words, PyObject *named, making *call, handing *as) {
     static char *known[] = {"tile", NULL};
     PyObject *given;
     if (!PyArg_ParseTupleAndKeywords(words, named, "O", known, &given)) return NULL;
@@ -139,7 +160,7 @@ static PyObject *made_of(PyObject *module, PyObject *words, PyObject *named, mak
     Py_BEGIN_ALLOW_THREADS
     status = call(bytes, len, &out, &fault);
     Py_END_ALLOW_THREADS
-    if (raise_for(state_of_module(module), status, &fault, bytes, len, 1) == 0) made = as(out);
+    if (raise_for(state_of_module(module), status, &fault, bytes, len, 1) == 0) made = as(state_of_module(module), &out);
     mvt_bytes_free(&out);
     Py_DECREF(tile);
     return made;
@@ -156,6 +177,12 @@ static PyObject *to_json(PyObject *module, PyObject *words, PyObject *named) {
 }
 static PyObject *to_svg(PyObject *module, PyObject *words, PyObject *named) {
     return made_of(module, words, named, mvt_svg, as_text);
+}
+static PyObject *json_lent(PyObject *module, PyObject *words, PyObject *named) {
+    return made_of(module, words, named, mvt_json, as_lent);
+}
+static PyObject *svg_lent(PyObject *module, PyObject *words, PyObject *named) {
+    return made_of(module, words, named, mvt_svg, as_lent);
 }
 
 /* The bytes of each name, of a list of names. */
@@ -201,7 +228,7 @@ static PyObject *extract_from(const state *of, PyObject *tile, PyObject *list, c
         Py_XDECREF(why);
         Py_XDECREF(name);
     } else if (raise_for(of, status, &fault, bytes, len, 1) == 0) {
-        made = as_bytes(out);
+        made = PyBytes_FromStringAndSize((const char *)out.data, (Py_ssize_t)out.len);
     }
     mvt_bytes_free(&out);
     return made;
@@ -239,7 +266,9 @@ PyMethodDef CALLS[] = {
      "A name that stands twice counts once. Raises NoLayer where a name has no layer, Refused and TooLarge."},
     {"report_lines", WITH_WORDS(report_lines), OF_TILE(report_lines) "What `mvt check` prints of a tile. Raises Refused."},
     {"to_json", WITH_WORDS(to_json), OF_TILE(to_json) "A tile as JSON, in one line. Raises Refused."},
+    {"json_lent", WITH_WORDS(json_lent), OF_TILE(json_lent) "The same in UTF-8, as a buffer over the library's memory."},
     {"to_svg", WITH_WORDS(to_svg), OF_TILE(to_svg) "A picture of a tile in SVG. Raises Refused."},
+    {"svg_lent", WITH_WORDS(svg_lent), OF_TILE(svg_lent) "The same in UTF-8, as a buffer over the library's memory."},
     {"version", version, METH_NOARGS, "version($module)\n--\n\nThe version of the library, which is that of this module."},
     {NULL, NULL, 0, NULL},
 };

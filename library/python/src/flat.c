@@ -184,6 +184,18 @@ static PyObject *flat_reduce(PyObject *self, PyObject *unused) {
     return NULL;
 }
 
+static PyObject *flat_lent(PyObject *self, PyObject *unused) {
+    (void)unused;
+    const flat *of = (flat *)self;
+    PyObject *told = PyTuple_New(LISTS);
+    for (int kind = 0; told != NULL && kind < LISTS; ++kind) {
+        const list *from = (const list *)of->lists[kind];
+        PyObject *bytes = lent_of(of->of, from->owner, from->data, (size_t)(from->count * from->size));
+        if (bytes == NULL || PyTuple_SetItem(told, kind, bytes) < 0) Py_CLEAR(told);
+    }
+    return told;
+}
+
 static PyObject *rows_of(PyObject *module, PyObject *contents) {
     return flat_of_contents(state_of_module(module), contents);
 }
@@ -211,6 +223,7 @@ static PyMethodDef FLAT_METHODS[] = {
      "The fields of an array of rows are those of `mvt.dtype(name)`. Keys, parts and points may also be given as\n"
      "numbers, with a row for each and a column for each number: `points` as x and y. `texts` may be bytes. A list\n"
      "that isn't named is empty. The arrays are copied. Raises OverflowError for a number that a row has no room for."},
+    {"_lent", flat_lent, METH_NOARGS, "_lent($self)\n--\n\nThe bytes of each list, over the library's memory."},
     {"__reduce__", flat_reduce, METH_NOARGS, NULL},
     {NULL, NULL, 0, NULL},
 };

@@ -115,7 +115,7 @@ static int execute(PyObject *module) {
         add_type(module, &of->flat, &FLAT_SPEC) < 0 || add_type(module, &of->builder, &BUILDER_SPEC) < 0 ||
         add_type(module, &of->decoder, &DECODER_SPEC) < 0)
         return -1;
-    PyMethodDef *const calls[] = {CALLS, ANSWERS_CALLS, REMARKS_CALLS, AROUND_CALLS, SIZES_CALLS, READING_CALLS, ROWS_CALLS, WRITING_CALLS};
+    PyMethodDef *const calls[] = {CALLS, REMARKS_CALLS, AROUND_CALLS, SIZES_CALLS, READING_CALLS, ROWS_CALLS, WRITING_CALLS};
     for (size_t i = 0; i < sizeof calls / sizeof *calls; ++i)
         if (PyModule_AddFunctions(module, calls[i]) < 0) return -1;
     return 0;

@@ -100,6 +100,16 @@ static PyType_Slot LIST_SLOTS[] = {{Py_tp_new, never_new},
                                    {0, NULL}};
 PyType_Spec LIST_SPEC = {"mvt._mvt.List", sizeof(list), 0, Py_TPFLAGS_DEFAULT, LIST_SLOTS};
 
+/* Bytes that the owner keeps. */
+PyObject *lent_of(state *of, PyObject *owner, const void *data, size_t len) {
+    return (PyObject *)new_list(of, TEXTS, owner, data, len);
+}
+
+/* The rows of a list as bytes. */
+PyObject *rows_told(const void *rows, size_t count, size_t size) {
+    return PyBytes_FromStringAndSize(count == 0 ? "" : (const char *)rows, (Py_ssize_t)(count * size));
+}
+
 static void held_dealloc(PyObject *self) {
     mvt_tile_free(&((held *)self)->tile);
     given_back(self);

@@ -45,7 +45,7 @@ PyObject *bytes_of(PyObject *tile);
 const uint8_t *content_of(PyObject *bytes, size_t *len);
 int raise_for(const state *of, uint32_t status, const mvt_fault *fault, const uint8_t *bytes, size_t len, int is_whole);
 int raise_no_tile(const state *of, const mvt_rows_fault *wrong);
-extern PyMethodDef CALLS[], ANSWERS_CALLS[], REMARKS_CALLS[], AROUND_CALLS[], SIZES_CALLS[];
+extern PyMethodDef CALLS[], REMARKS_CALLS[], AROUND_CALLS[], SIZES_CALLS[];
 
 /* Rows. A list and a row look into memory of an owner, which lasts as long as they do. Nothing changes the rows of a tile,
  * which are read while other threads run. */
@@ -97,6 +97,8 @@ const uint8_t *rows_at(const mvt_tile *tile, int kind);
 size_t count_at(const mvt_tile *tile, int kind);
 list *new_list(state *of, int kind, PyObject *owner, const uint8_t *data, size_t count);
 held *new_held(const state *of);
+PyObject *lent_of(state *of, PyObject *owner, const void *data, size_t len);
+PyObject *rows_told(const void *rows, size_t count, size_t size);
 PyObject *flat_of(state *of, held *owner);
 PyObject *flat_copied(state *of, const mvt_tile *tile);
 mvt_tile tile_of_flat(const flat *rows);
@@ -112,10 +114,16 @@ PyObject *text_read(const mvt_tile *tile, mvt_span span);
 PyObject *encoded(const state *of, PyObject *text);
 int value_given(const state *of, PyObject *value, mvt_any *out, PyObject **text);
 int number_given(PyObject *given, uint64_t most, uint64_t *number);
-int points_given(PyObject *given, mvt_point **points, size_t *count);
-int integers_given(PyObject *given, uint32_t **integers, size_t *count);
+int points_given(PyObject *given, void **points, size_t *count);
+int integers_given(PyObject *given, void **integers, size_t *count);
 PyObject *sequence_given(PyObject *given);
 PyObject *item_of(PyObject *sequence, Py_ssize_t at);
+
+/* A list that is filled again and again. */
+typedef struct {
+    void *items;
+    size_t count, room;
+} gathered;
 
 /* A tile that is built. These add to it, or raise, with the place, and change nothing. */
 typedef struct {
@@ -123,16 +131,16 @@ typedef struct {
     mvt_builder rows;
     PyObject *layer; /* the name of the layer that is begun, or NULL */
     uint64_t ended;  /* features of the layer before the one that is begun */
-    int in_feature, kind;
+    int in_feature, kind, has_id;
+    uint64_t id;
+    gathered tags, parts, points, integers; /* of the feature that is begun */
 } building;
 
 int build_layer(building *to, PyObject *name, PyObject *extent);
 int build_foreign(building *to, PyObject *version, PyObject *content);
 int build_feature(building *to, PyObject *kind, PyObject *id);
 int build_tag(building *to, PyObject *key, PyObject *value);
-int build_points(building *to, PyObject *points);
-int build_part(building *to, int kind, int exterior, PyObject *points);
-int build_integers(building *to, PyObject *integers);
+int build_drawn(building *to, int kind, int exterior, PyObject *given);
 int build_rows(building *to, mvt_tile *rows);
 PyObject *build_finish(building *to);
 int build_at(building *to, PyObject *text, PyObject *value, uint32_t *index);

@@ -1,5 +1,4 @@
-/* What is noted and found of a tile, as tuples, what refused bytes look like, and what the numbers of causes, notes and findings
- * mean. */
+/* What is noted and found of a tile, what is mended, what refused bytes look like, and what the numbers of causes, notes and findings mean. */
 #include "module.h"
 
 static PyObject *note_told(const void *notes, size_t at) {
@@ -16,7 +15,7 @@ static PyObject *finding_told(const void *findings, size_t at) {
 }
 
 /* A list of what is told of each row. */
-static PyObject *rows_told(const void *rows, size_t count, PyObject *(*told)(const void *, size_t)) {
+static PyObject *tuples_told(const void *rows, size_t count, PyObject *(*told)(const void *, size_t)) {
     PyObject *list = PyList_New((Py_ssize_t)count);
     for (size_t at = 0; list != NULL && at < count; ++at) {
         PyObject *one = told(rows, at);
@@ -59,8 +58,9 @@ static PyObject *looked(PyObject *module, PyObject *given, int what, PyObject *(
     return told;
 }
 
-static PyObject *notes_told(const remarks *of) { return rows_told(of->summary.notes, of->summary.note_count, note_told); }
-static PyObject *findings_told(const remarks *of) { return rows_told(of->findings.rows, of->findings.count, finding_told); }
+static PyObject *findings_told(const remarks *of) {
+    return rows_told(of->findings.rows, of->findings.count, sizeof *of->findings.rows);
+}
 
 /* So many notes are told of a tile in brief. Kinds are below MOST_KINDS. */
 enum { MOST_NOTES = 50, MOST_KINDS = 32 };
@@ -92,7 +92,7 @@ static PyObject *brief_told(const remarks *of) {
     PyObject *told = PyTuple_New(3);
     for (Py_ssize_t i = 0; told != NULL && i < 3; ++i) {
         PyObject *part = i == 0   ? kinds_told(summary->notes, summary->note_count, kind_of_note, note_told)
-                         : i == 1 ? rows_told(summary->notes, summary->note_count < MOST_NOTES ? summary->note_count : MOST_NOTES, note_told)
+                         : i == 1 ? tuples_told(summary->notes, summary->note_count < MOST_NOTES ? summary->note_count : MOST_NOTES, note_told)
                                   : kinds_told(of->findings.rows, of->findings.count, kind_of_finding, finding_told);
         if (part == NULL || PyTuple_SetItem(told, i, part) < 0) Py_CLEAR(told);
     }
@@ -100,15 +100,33 @@ static PyObject *brief_told(const remarks *of) {
 }
 
 static PyObject *survey_told(const remarks *of) {
-    PyObject *notes = notes_told(of);
-    return notes == NULL ? NULL
-                         : Py_BuildValue("(KKNN)", (unsigned long long)of->summary.layers, (unsigned long long)of->summary.features,
-                                         PyBool_FromLong(of->summary.is_canonical == 1), notes);
+    const mvt_summary *told = &of->summary;
+    return Py_BuildValue("(KKNN)", (unsigned long long)told->layers, (unsigned long long)told->features,
+                         PyBool_FromLong(told->is_canonical == 1), rows_told(told->notes, told->note_count, sizeof *told->notes));
 }
 
 static PyObject *survey_rows(PyObject *module, PyObject *given) { return looked(module, given, NOTES, survey_told); }
 static PyObject *lint_rows(PyObject *module, PyObject *given) { return looked(module, given, FINDINGS, findings_told); }
 static PyObject *looked_at(PyObject *module, PyObject *given) { return looked(module, given, NOTES | FINDINGS, brief_told); }
+
+static PyObject *mend_rows(PyObject *module, PyObject *given) {
+    PyObject *tile = bytes_of(given), *told = NULL;
+    if (tile == NULL) return NULL;
+    mvt_mended out = {0};
+    mvt_fault fault = {0};
+    size_t len;
+    const uint8_t *bytes = content_of(tile, &len);
+    uint32_t status;
+    Py_BEGIN_ALLOW_THREADS
+    status = mvt_mend(bytes, len, &out, &fault);
+    Py_END_ALLOW_THREADS
+    if (raise_for(state_of_module(module), status, &fault, bytes, len, 1) == 0)
+        told = Py_BuildValue("(NN)", rows_told(out.bytes.data, out.bytes.len, 1),
+                             rows_told(out.changes, out.change_count, sizeof *out.changes));
+    mvt_mended_free(&out);
+    Py_DECREF(tile);
+    return told;
+}
 
 static PyObject *text_of(PyObject *number, const char *(*text)(uint32_t)) {
     uint64_t told;
@@ -133,16 +151,19 @@ static PyObject *finding_text(PyObject *module, PyObject *number) { return (void
 PyMethodDef REMARKS_CALLS[] = {
     {"survey_rows", survey_rows, METH_O,
      "survey_rows($module, tile, /)\n--\n\n"
-     "How many layers and features there are, whether the bytes are canonical, and a tuple for each note: the kind, the\n"
-     "version, the layer, the feature, the ring and the earlier feature. Raises Refused."},
+     "How many layers and features there are, whether the bytes are canonical, and the rows of the notes (mvt_note_row) as\n"
+     "bytes. Raises Refused."},
     {"lint_rows", lint_rows, METH_O,
      "lint_rows($module, tile, /)\n--\n\n"
-     "A tuple for each finding: the kind, whether it is of a feature, the layer, the feature, the attribute, x and y.\n"
-     "Raises Refused."},
+     "The rows of the findings (mvt_finding_row) as bytes. Raises Refused."},
     {"looked_at", looked_at, METH_O,
      "looked_at($module, tile, /)\n--\n\n"
      "Of each kind of note how many there are, and the first; the first 50 notes; and of each kind of finding how many there\n"
      "are, and the first. None where there is neither, as with most tiles. Raises Refused."},
+    {"mend_rows", mend_rows, METH_O,
+     "mend_rows($module, tile, /)\n--\n\n"
+     "The canonical bytes of the tile, mended, and the rows of the changes (mvt_change_row) as bytes. Raises Refused and\n"
+     "TooLarge."},
     {"lookalike", lookalike, METH_O,
      "lookalike($module, tile, /)\n--\n\nThe number of what refused bytes look like, or 0 if they may be meant as a tile."},
     {"cause_text", cause_text, METH_O, "cause_text($module, cause, /)\n--\n\nWhat the number of a cause means, in a sentence or two."},

@@ -256,7 +256,8 @@ static int any_point_given(PyObject *given, mvt_point *point) {
     return status;
 }
 
-static int point_given(PyObject *given, mvt_point *point) {
+static int point_given(PyObject *given, void *to) {
+    mvt_point *point = to;
     if (PyTuple_CheckExact(given) && PyTuple_Size(given) == 2) {
         PyObject *x = PyTuple_GetItem(given, 0), *y = PyTuple_GetItem(given, 1);
         if (PyLong_CheckExact(x) && PyLong_CheckExact(y))
@@ -268,44 +269,38 @@ static int point_given(PyObject *given, mvt_point *point) {
     return status;
 }
 
-/* Points of any pairs of numbers, in memory that PyMem_Free gives back. */
-int points_given(PyObject *given, mvt_point **points, size_t *count) {
-    *points = NULL;
-    PyObject *sequence = sequence_given(given);
-    if (sequence == NULL) return -1;
-    const Py_ssize_t length = length_of(sequence);
-    int status = 0;
-    *count = (size_t)length;
-    *points = PyMem_Malloc((size_t)length * sizeof **points);
-    if (*points == NULL) PyErr_NoMemory(), status = -1;
-    for (Py_ssize_t at = 0; status == 0 && at < length; ++at) {
-        PyObject *point = item_of(sequence, at);
-        status = point == NULL ? -1 : point_given(point, *points + at);
-    }
-    Py_DECREF(sequence);
-    if (status < 0) PyMem_Free(*points);
+static int integer_given(PyObject *given, void *to) {
+    uint64_t number = 0;
+    Py_INCREF(given);
+    const int status = number_given(given, UINT32_MAX, &number);
+    Py_DECREF(given);
+    *(uint32_t *)to = (uint32_t)number;
     return status;
 }
 
-/* Integers of 32 bits, in memory that PyMem_Free gives back. */
-int integers_given(PyObject *given, uint32_t **integers, size_t *count) {
-    *integers = NULL;
+/* What each item of a list is taken as, of so many bytes, in memory that PyMem_Free gives back. */
+static inline int items_given(PyObject *given, size_t size, int (*take)(PyObject *, void *), void **items, size_t *count) {
     PyObject *sequence = sequence_given(given);
     if (sequence == NULL) return -1;
     const Py_ssize_t length = length_of(sequence);
     int status = 0;
     *count = (size_t)length;
-    *integers = PyMem_Malloc((size_t)length * sizeof **integers);
-    if (*integers == NULL) PyErr_NoMemory(), status = -1;
+    *items = PyMem_Malloc((size_t)length * size);
+    if (*items == NULL) PyErr_NoMemory(), status = -1;
     for (Py_ssize_t at = 0; status == 0 && at < length; ++at) {
-        uint64_t number = 0;
         PyObject *item = item_of(sequence, at);
-        Py_XINCREF(item);
-        status = item == NULL ? -1 : number_given(item, UINT32_MAX, &number);
-        Py_XDECREF(item);
-        (*integers)[at] = (uint32_t)number;
+        status = item == NULL ? -1 : take(item, (char *)*items + (size_t)at * size);
     }
     Py_DECREF(sequence);
-    if (status < 0) PyMem_Free(*integers);
+    if (status < 0) PyMem_Free(*items);
     return status;
+}
+
+/* Points of any pairs of numbers, and integers of 32 bits. */
+int points_given(PyObject *given, void **points, size_t *count) {
+    return items_given(given, sizeof(mvt_point), point_given, points, count);
+}
+
+int integers_given(PyObject *given, void **integers, size_t *count) {
+    return items_given(given, sizeof(uint32_t), integer_given, integers, count);
 }

@@ -53,11 +53,11 @@ static int add_each_of(building *to, PyObject *object, int name, adding *add) {
 
 static int add_line(building *to, PyObject *line, Py_ssize_t number) {
     (void)number;
-    return build_part(to, MVT_LINES, 0, line);
+    return build_drawn(to, MVT_LINES, 0, line);
 }
 
 static int add_ring(building *to, PyObject *ring, Py_ssize_t number) {
-    return build_part(to, MVT_POLYGONS, number == 0, ring);
+    return build_drawn(to, MVT_POLYGONS, number == 0, ring);
 }
 
 static int add_polygon(building *to, PyObject *polygon, Py_ssize_t number) {
@@ -66,12 +66,8 @@ static int add_polygon(building *to, PyObject *polygon, Py_ssize_t number) {
 }
 
 static int add_geometry(building *to, PyObject *geometry) {
-    switch (to->kind) {
-    case MVT_UNKNOWN: return build_integers(to, geometry);
-    case MVT_POINTS: return build_points(to, geometry);
-    case MVT_LINES: return add_each(to, geometry, add_line);
-    default: return add_each(to, geometry, add_polygon);
-    }
+    if (to->kind < MVT_LINES) return build_drawn(to, to->kind, 0, geometry);
+    return add_each(to, geometry, to->kind == MVT_LINES ? add_line : add_polygon);
 }
 
 static int add_item(building *to, PyObject *item, Py_ssize_t number) {

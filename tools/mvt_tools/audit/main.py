@@ -12,7 +12,8 @@ from typing import Any, Dict, List, NoReturn, Optional, Sequence, Tuple
 from .._ending import hold_places
 from .._shown import shown
 from ..stores import Options, State, Store, StoreError, found, opened, server_options
-from . import engine, report, summary
+from . import engine, mending, report, summary
+from .copies import Copy, copy_of
 from .ending import Signals, say, told, write
 from .progress import Progress
 from .results import Results, ResultsError
@@ -34,7 +35,7 @@ def _parser() -> argparse.ArgumentParser:
     words = _Words(
         prog="mvt-audit",
         description="Judges every tile of a cache, and makes audit.sqlite and report.html of it.",
-        epilog="Status: 0 all tiles are good, 1 some are refused or don't unpack, 2 the command can't be done as it is,"
+        epilog="Status: 0 all tiles are good, or mended, 1 some are refused or don't unpack, 2 the command can't be done as it is,"
         " 3 something can't be read or written, 4 there is too little memory, 130 and 143 it was ended by Ctrl-C or"
         " SIGTERM. A run that was ended goes on where it was when it is started again.",
     )
@@ -43,7 +44,12 @@ def _parser() -> argparse.ArgumentParser:
         help="a folder {z}/{x}/{y}.mvt or .pbf (.gz too), an .mbtiles or .pmtiles file, a .txt file with a name on each"
         " line, or a server: the address of its tiles with {z}, {x} and {y} (or {-y}) in it, or of its TileJSON",
     )
-    words.add_argument("--into", required=True, type=Path, metavar="FOLDER", help="where the results go")
+    words.add_argument("--into", type=Path, metavar="FOLDER", help="where the results go")
+    words.add_argument(
+        "--mend", type=Path, metavar="NEW",
+        help="also write a copy of a folder, an .mbtiles or a .pmtiles file (as .mbtiles), in which tiles are mended that are"
+        " refused for ZeroSegment or FirstRing; without --into the results go to NEW.audit",
+    )
     where = words.add_mutually_exclusive_group()
     where.add_argument("--workers", type=server_options.positive, default=4, metavar="N", help="processes on this machine (4)")
     where.add_argument("--scheduler", metavar="ADDRESS", help="a scheduler of Dask, such as tcp://alpha:8786")
@@ -52,6 +58,25 @@ def _parser() -> argparse.ArgumentParser:
     words.add_argument("--json", action="store_true", help="sum up as JSON")
     server_options.add_to(words)
     return words
+
+
+def _given(words: Optional[Sequence[str]]) -> argparse.Namespace:
+    """The words of the command line."""
+    parser = _parser()
+    given = parser.parse_args(server_options.words_of(words))
+    if given.into is None and given.mend is None:
+        parser.error("the following arguments are required: --into")
+    given.into = given.into or given.mend.with_name(f"{given.mend.name}.audit")
+    return given
+
+
+def _copy(given: argparse.Namespace, stores: List[Store], states: List[State]) -> Optional[Copy]:
+    """The mended copy that is wanted, if one is."""
+    if given.mend is None:
+        return None
+    if len(stores) != 1:
+        raise ResultsError("--mend takes one store")
+    return copy_of(stores[0], states[0], Path(os.path.abspath(given.mend)))
 
 
 def _stores(given: argparse.Namespace) -> Tuple[List[Store], List[State]]:
@@ -107,8 +132,13 @@ def _audit(given: argparse.Namespace, signals: Signals) -> int:
     stores, states = _stores(given)
     total, into = sum(state.tiles for state in states), Path(os.path.abspath(given.into))
     with contextlib.closing(Results(into, given.anew)) as results:
+        copy = _copy(given, stores, states)
         try:
             found = _judge(given, results, stores, states, signals)
+            if copy is not None and not found["unfinished"]:
+                told = mending.mend(results, stores[0], states[0], copy, signals.check)
+                found["mended"] = {"into": str(given.mend), **told}
+                found["still_broken"] = mending.still_broken(found)
         except BaseException:
             if signals.number is not None:
                 judged = sum(results.done(store.path).tiles for store in stores)
@@ -128,7 +158,7 @@ def main(words: Optional[Sequence[str]] = None) -> int:
     try:
         signals.heed()
         hold_places()
-        return _audit(_parser().parse_args(server_options.words_of(words)), signals)
+        return _audit(_given(words), signals)
     except BaseException as why:
         if isinstance(why, SystemExit):
             raise

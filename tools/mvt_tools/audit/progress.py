@@ -13,10 +13,10 @@ _STANDS, _WIDTH = 0.2, 79
 
 
 class Progress:
-    """The rate, the number of broken tiles and what is left, on a terminal only."""
+    """The rate, the number of broken or mended tiles and what is left, on a terminal only."""
 
-    def __init__(self, total: int, done: int, broken: int) -> None:
-        self.done, self.broken, self.new = done, broken, 0
+    def __init__(self, total: int, done: int, broken: int, word: str = "broken") -> None:
+        self.done, self.broken, self.new, self._word = done, broken, 0, word
         self._bar: Any = None
         if sys.stderr is not None and sys.stderr.isatty():
             self._bar = _bar(total, done)
@@ -30,7 +30,7 @@ class Progress:
             self._show()
 
     def _show(self) -> None:
-        self._bar.set_postfix_str(f"{self.broken:,} broken", refresh=False)
+        self._bar.set_postfix_str(f"{self.broken:,} {self._word}", refresh=False)
 
     def close(self) -> None:
         if self._bar is not None:

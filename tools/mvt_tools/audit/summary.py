@@ -65,10 +65,12 @@ def _listed(results: Results, columns: Tuple[str, ...], where: str) -> List[Dict
 
 
 def status(found: Dict[str, Any]) -> int:
-    """The status of `mvt check`: 3 where something is unread, else 1 where something is refused, else 0."""
+    """The status of `mvt check`: 3 where something is unread, else 1 where something is refused and isn't mended, else 0."""
     verdicts = found["verdicts"]
     if verdicts[UNREAD] or found["unfinished"]:
         return 3
+    if "mended" in found:
+        return 3 if found["mended"]["left_out"] else 1 if found["still_broken"] else 0
     return 1 if verdicts[REFUSED] or verdicts[NOT_UNPACKED] else 0
 
 
@@ -105,6 +107,7 @@ def lines(found: Dict[str, Any], files: Sequence[str]) -> List[str]:
         *_beyond(found),
         *_sized(found["sizes"]),
         *_described(found),
+        *mended(found),
         f"{found['tiles_this_time']:,} tiles in {seconds['work']:.1f} s, {found['tiles_a_second']:,} a second;"
         f" the workers started in {seconds['start']:.1f} s",
         f"written: {', '.join(shown(file, _PATH) for file in files)}",
@@ -166,6 +169,24 @@ def _percent(part: int, whole: int) -> str:
 
 def _named(layer: Optional[str]) -> str:
     return "others" if layer is None else shown(layer)
+
+
+def mended(found: Dict[str, Any]) -> List[str]:
+    """What was mended, and what is still broken; nothing where nothing was to be mended."""
+    if "mended" not in found:
+        return []
+    told, still = found["mended"], found["still_broken"]
+    kinds = [f"{name} {count:,} in {told['kinds'][name]:,}" for name, count in _largest(told["changes"])]
+    left_out = f"; {told['left_out']:,} couldn't be copied" if told["left_out"] else ""
+    return [
+        f"mended: {sum(told['tiles'].values()):,} of {told['copied']:,} tiles, in {shown(told['into'], _PATH)}{left_out}",
+        f"changes, in how many tiles: {', '.join(kinds) or '-'}",
+        f"still broken: {_few(_largest(still)) or 'none'}",
+    ]
+
+
+def _largest(counts: Dict[str, int]) -> List[Tuple[str, int]]:
+    return sorted(counts.items(), key=lambda each: (-each[1], each[0]))
 
 
 def _described(found: Dict[str, Any]) -> List[str]:

@@ -12,15 +12,20 @@ _DRAWN = 20_000
 # So many integers are looked at for each of them.
 _LOOKED = 8
 _EXTENT = 4096
+# A cause of a feature's tags, round whose place stands the feature.
+_OF_FEATURE = next(number for number, name in mvt.CAUSES.items() if name == "OddTags")
 _X = (Role.MOVE_X, Role.LINE_X)
 
 
-def told(tile: bytes, fault: Tuple[int, int, int, int, bytes]) -> Dict[str, Any]:
-    """The integers round the fault that the library answers, and the shape, each of them None where there is none."""
-    layer, feature = (None if index < 0 else index for index in fault[:2])
-    at = fault[2]
-    around = mvt.around(tile, mvt.Refused(layer, feature, at, fault[3], fault[4].decode()))
-    return {"integers": _integers(tile, at, around), "shape": _shape(at, around)}
+def told(tile: bytes, fault: mvt.Refused) -> Dict[str, Any]:
+    """The integers round the fault of a tile, and the shape, each of them None where there is none."""
+    around = mvt.around(tile, fault)
+    return {"integers": _integers(tile, fault.at, around), "shape": _shape(fault.at, around)}
+
+
+def whole_shape(tile: bytes, layer: int, feature: int) -> Optional[Dict[str, Any]]:
+    """The shape of a feature of any tile, as far as it can be read."""
+    return _shape(0, mvt.around(tile, mvt.Refused(layer, feature, 0, _OF_FEATURE, mvt.CAUSES[_OF_FEATURE])))
 
 
 def _integers(tile: bytes, at: int, around: Around) -> Optional[Dict[str, Any]]:

@@ -5,7 +5,7 @@ mvt_lookalike, or 0), of 32 bits each, and then
 - for status 1 the fault: layer, feature, place, cause, the length of the cause's name, and the name; where the bytes look like
   something the length of the sentence that says so, of 32 bits, and the sentence; of `explain` then its place: whether there is
   a layer's name and a feature's id, of 32 bits each, the id, where the bytes begin and end that the fault is about, the lengths
-  of the layer's name and of the sentence, the name, and the sentence.
+  of the layer's name and of the sentence, the name, with U+FFFD for what of it isn't UTF-8, and the sentence.
 
 The rows of a tile are nine counts of 64 bits in the order of `mvt_tile`, and the lists, each from the next multiple of 8. A survey
 is the number of layers, that of features, and 1 if the bytes are canonical, of 64 bits each, and then the rows of the notes.
@@ -15,74 +15,129 @@ import json
 import struct
 from contextlib import suppress
 from functools import partial
-from typing import Any, Callable, Dict, List, Optional, Tuple
+from typing import Any, Callable, Dict, List, Optional, Sequence
 
 import mvt
-from mvt._mvt import answer, answer_extract, located, lookalike, measured
+from mvt._mvt import json_lent, lint_rows, lookalike, measured, survey_rows, svg_lent
 from mvt.geojson.making import Place, objects_of, parts_of
 
 from ..stores import place_of
-from . import frames
+from . import differ, frames, mending
 from .around import told as around_told
 from .frames import Part
 
 # The rows of a tile have at most so many bytes.
 MOST_ROWS = 1 << 30
 
-OK, REFUSED, NO_MEMORY = 0, 1, 2
-# What there is round a fault has up to 70 times as many bytes as the tile; of tiles above so many bytes none is told.
+OK, REFUSED, NO_MEMORY, TOO_LARGE, NO_LAYER, BAD_NAME = range(6)
+# What there is round a fault has up to 72 times as many bytes as the tile; of tiles above so many bytes none is told.
 MOST_AROUND = 1 << 23
 # GeoJSON has at most so many bytes: a text stands there once for each feature that has it.
 _MOST_GEOJSON = 1 << 30
 
 # The pieces of an answer. Those that the library made aren't copied.
 Answer = List[Part]
-_Fault = Tuple[int, int, int, int, bytes]
 
 
-def _explain(body: bytearray) -> Answer:
+def _answered(call: Callable[..., Sequence[Part]], tile: mvt.Buffer, *words: Any) -> Answer:
+    """What a call hands out of a tile, or what it raises."""
+    try:
+        return [_head(OK), *call(tile, *words)]
+    except mvt.Refused as fault:
+        return [_refused(fault, tile)]
+    except mvt.NoLayer:
+        return [_head(NO_LAYER)]
+    except mvt.TooLarge:
+        return [_head(TOO_LARGE)]
+    except MemoryError:
+        return [_head(NO_MEMORY)]
+
+
+def _judged(tile: mvt.Buffer) -> Answer:
+    mvt.judge(tile)
+    return []
+
+
+def _surveyed(tile: mvt.Buffer) -> Answer:
+    layers, features, is_canonical, notes = survey_rows(tile)
+    return [struct.pack("<3Q", layers, features, is_canonical), notes]
+
+
+def _read(tile: mvt.Buffer) -> Answer:
+    """The counts of rows, and the bytes of each list."""
+    rows = mvt.rows(tile, MOST_ROWS)
+    pieces: Answer = [struct.pack("<9Q", *(len(getattr(rows, name)) for name in _LISTS))]
+    for content in map(memoryview, rows._lent()):
+        pieces += [content, bytes(-len(content) % 8)]
+    return pieces
+
+
+_LISTS = ("layers", "features", "keys", "values", "tags", "parts", "points", "integers", "texts")
+
+
+def _explain(tile: bytearray) -> Answer:
     """Where and why a tile is refused; of an accepted one only that."""
-    tile = bytes(body)
-    status, made = answer("judge", tile)
-    return _spelled(status, made, tile) + (_explained(made, tile) if status == REFUSED else [])
+    try:
+        mvt.judge(tile)
+        return [_head(OK)]
+    except mvt.Refused as fault:
+        return [_refused(fault, tile), _explained(fault)]
+    except MemoryError:
+        return [_head(NO_MEMORY)]
 
 
-def _around(body: bytearray) -> Answer:
+def _around(tile: bytes) -> Answer:
     """What there is round the fault of a tile that is refused, as JSON: nothing where there is no memory for it, or no fault, or
     where the tile is large."""
-    tile = bytes(body)
-    status, made = answer("judge", tile)
     told = {"integers": None, "shape": None}
-    if status == REFUSED and len(tile) <= MOST_AROUND:
+    try:
+        mvt.judge(tile)
+    except mvt.Refused as fault:
+        if len(tile) <= MOST_AROUND:
+            with suppress(MemoryError):
+                told = around_told(tile, fault)
+    return [_spelled(told)]
+
+
+def _canonical(tile: bytes) -> Answer:
+    """How many bytes the canonical form has, and where the tile first differs from it, as JSON; that isn't told where there is
+    no memory for it, or where the tile is large."""
+    made = mvt.rewrite(tile)
+    found = None
+    if max(len(tile), len(made)) <= MOST_AROUND:
         with suppress(MemoryError):
-            told = around_told(tile, made)
-    return _spelled(OK, json.dumps(told, separators=(",", ":")).encode(), tile)
+            found = differ.first_difference(tile, made)
+    return [_spelled({"isSame": tile == made, "length": len(made), "difference": found})]
 
 
-def _made(call: str, body: bytearray) -> Answer:
-    """What a call makes of a tile."""
-    return _spelled(*answer(call, body, MOST_ROWS), body)
+def _mend(tile: bytes) -> Answer:
+    """Frames of what was changed, as JSON, and of the mended tile."""
+    made, told = mending.told(tile)
+    return frames.spelled([[_spelled(told)], [made]])
 
 
 def _extract(body: bytearray) -> Answer:
     """Of frames: names, and behind them the tile."""
     *names, place = frames.places(body, least=1)
-    tile = memoryview(body)[place]
-    return _spelled(*answer_extract(tile, [bytes(body[name]) for name in names]), tile)
+    try:
+        wanted = [bytes(body[name]).decode() for name in names]
+    except UnicodeDecodeError:
+        return [_head(BAD_NAME)]
+    return _answered(lambda tile: [mvt.extract(tile, wanted)], memoryview(body)[place])
 
 
 def _surveys(body: bytearray) -> Answer:
     """Of frames of tiles: frames of answers."""
     view = memoryview(body)
-    return frames.spelled([_spelled(*answer("survey", view[place]), view[place]) for place in frames.places(body)])
+    return frames.spelled([_answered(_surveyed, view[place]) for place in frames.places(body)])
 
 
-def _sizes(body: bytearray) -> Answer:
+def _sizes(tile: mvt.Buffer) -> Answer:
     """Of each layer the bytes, and those of its geometries, as JSON."""
-    layers = measured(body, MOST_ROWS)
+    layers = measured(tile, MOST_ROWS)
     if layers is None:
-        return _spelled(NO_MEMORY, None, body)
-    return _spelled(OK, json.dumps([[bytes, geometry] for _, _, bytes, geometry, _ in layers]).encode(), body)
+        raise MemoryError
+    return [_spelled([[bytes, geometry] for _, _, bytes, geometry, _ in layers])]
 
 
 def _geojson(body: bytearray) -> Answer:
@@ -93,15 +148,10 @@ def _geojson(body: bytearray) -> Answer:
     where = place_of(spelled.split("/")) if spelled else None
     if others or (spelled and where is None):
         raise frames.FrameError("it is a place and a tile")
-    try:
-        return _spelled(OK, _collection(memoryview(body)[tile], where), body)
-    except mvt.Refused:
-        return _made("judge", body[tile])
-    except MemoryError:
-        return _spelled(NO_MEMORY, None, body)
+    return _answered(_collection, memoryview(body)[tile], where)
 
 
-def _collection(tile: memoryview, place: Optional[Place]) -> bytes:
+def _collection(tile: memoryview, place: Optional[Place]) -> Answer:
     made = bytearray(b'{"type":"FeatureCollection","features":[')
     for part in parts_of(mvt.rows(tile, MOST_ROWS)):
         for each in objects_of(part, place):
@@ -109,56 +159,47 @@ def _collection(tile: memoryview, place: Optional[Place]) -> bytes:
             made += end + json.dumps(each, ensure_ascii=False, separators=(",", ":"), allow_nan=False).encode()
             if len(made) > _MOST_GEOJSON:
                 raise MemoryError
-    return bytes(made + b"\n]}\n")
+    return [bytes(made + b"\n]}\n")]
 
 
 # What the page asks for, by its name; and which of them take frames.
 CALLS: Dict[str, Callable[[bytearray], Answer]] = {
-    "judge": partial(_made, "judge"),
+    "judge": partial(_answered, _judged),
     "explain": _explain,
-    "around": _around,
-    "read": partial(_made, "rows"),
-    "survey": partial(_made, "survey"),
-    "findings": partial(_made, "findings"),
-    "rewrite": partial(_made, "rewrite"),
-    "json": partial(_made, "json"),
-    "svg": partial(_made, "svg"),
+    "around": lambda body: _answered(_around, bytes(body)),
+    "read": partial(_answered, _read),
+    "survey": partial(_answered, _surveyed),
+    "findings": partial(_answered, lambda tile: [lint_rows(tile)]),
+    "rewrite": partial(_answered, lambda tile: [mvt.rewrite(tile)]),
+    "canonical": lambda body: _answered(_canonical, bytes(body)),
+    "mend": lambda body: _answered(_mend, bytes(body)),
+    "json": partial(_answered, lambda tile: [memoryview(json_lent(tile))]),
+    "svg": partial(_answered, lambda tile: [memoryview(svg_lent(tile))]),
     "extract": _extract,
     "surveys": _surveys,
-    "sizes": _sizes,
+    "sizes": partial(_answered, _sizes),
     "geojson": _geojson,
 }
 FRAMED = ("extract", "surveys", "geojson")
 
 
-def _spelled(status: int, made: Any, tile: mvt.Buffer) -> Answer:
-    """What a call answers of a tile."""
-    if status == REFUSED:
-        return [_refused(made, tile)]
-    head = struct.pack("<II", status, 0)
-    if status != OK:
-        return [head]
-    return [head, *(_lists(made) if isinstance(made, tuple) else [memoryview(made)])]
+def _head(status: int) -> bytes:
+    return struct.pack("<II", status, 0)
 
 
-def _refused(fault: _Fault, tile: mvt.Buffer) -> bytes:
-    layer, feature, at, cause, name = fault
-    kind = lookalike(tile)
-    told = struct.pack("<IIqqQII", REFUSED, kind, layer, feature, at, cause, len(name)) + name
-    if kind == 0:
-        return told
-    *_, sentence = located(tile, fault)
-    return told + struct.pack("<I", len(sentence)) + sentence
+def _spelled(told: Any) -> bytes:
+    return json.dumps(told, separators=(",", ":")).encode()
 
 
-def _explained(fault: _Fault, tile: bytes) -> Answer:
-    *told, name, sentence = located(tile, fault)
-    return [struct.pack("<IIQQQII", *told, len(name), len(sentence)), name, sentence]
+def _refused(fault: mvt.Refused, tile: mvt.Buffer) -> bytes:
+    layer, feature = (-1 if index is None else index for index in (fault.layer, fault.feature))
+    kind, name, sentence = lookalike(tile), fault.name.encode(), fault.sentence.encode()
+    told = struct.pack("<IIqqQII", REFUSED, kind, layer, feature, fault.at, fault.cause, len(name)) + name
+    return told if kind == 0 else told + struct.pack("<I", len(sentence)) + sentence
 
 
-def _lists(lists: Tuple[Any, ...]) -> Answer:
-    """The counts of rows, and the bytes of each list."""
-    pieces: Answer = [struct.pack(f"<{len(lists)}Q", *(count for count, _ in lists))]
-    for _, rows in lists:
-        pieces += [memoryview(rows), bytes(-len(rows) % 8)]
-    return pieces
+def _explained(fault: mvt.Refused) -> bytes:
+    name, sentence = (fault.layer_name or "").encode(), fault.sentence.encode()
+    is_there = fault.layer_name is not None, fault.feature_id is not None
+    place = fault.feature_id or 0, fault.start or 0, fault.end or 0
+    return struct.pack("<IIQQQII", *is_there, *place, len(name), len(sentence)) + name + sentence

@@ -113,6 +113,16 @@ class MBTiles(Store):
         except sqlite3.Error as why:
             raise self._error(why) from why
 
+    def named(self) -> Iterator[Tuple[Any, ...]]:
+        """All that its table of metadata says, in its order. Raises StoreError where it can't be read."""
+        query = f"select name, value from metadata where length(name) + length(value) <= {files.MOST_SAID} limit 10000"
+        try:
+            with self._reading() as database:
+                if database.row("select 1 from sqlite_master where lower(name) = 'metadata'") is not None:
+                    yield from database.rows(query)
+        except sqlite3.Error as why:
+            raise self._error(why) from why
+
     # A key is a place, or a row's number where no index has the places in order; and behind it how many rows further, where
     # a row has no place of its own.
 

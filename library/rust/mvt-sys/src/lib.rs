@@ -59,6 +59,11 @@ pub const UINT: u32 = 5;
 pub const SINT: u32 = 6;
 pub const BOOL: u32 = 7;
 
+pub const CHANGE_TURNED_RING: u32 = 1;
+pub const CHANGE_REPEATED_POINT: u32 = 2;
+pub const CHANGE_PART_LEFT_OUT: u32 = 3;
+pub const CHANGE_FEATURE_LEFT_OUT: u32 = 4;
+
 pub const NOTE_NO_LAYERS: u32 = 1;
 pub const NOTE_FOREIGN: u32 = 2;
 pub const NOTE_NO_FEATURES: u32 = 3;
@@ -227,6 +232,24 @@ pub struct Tile {
 
 #[repr(C)]
 #[derive(Clone, Copy, Debug, PartialEq, Eq)]
+pub struct ChangeRow {
+    pub kind: u32,
+    pub layer: u64,
+    pub feature: u64,
+    pub part: u64,
+    pub count: u64,
+}
+
+#[repr(C)]
+#[derive(Clone, Copy, Debug, PartialEq, Eq)]
+pub struct Mended {
+    pub bytes: Bytes,
+    pub changes: *const ChangeRow,
+    pub change_count: usize,
+}
+
+#[repr(C)]
+#[derive(Clone, Copy, Debug, PartialEq, Eq)]
 pub struct NoteRow {
     pub kind: u32,
     pub version: u32,
@@ -370,6 +393,7 @@ pub struct Surroundings {
 
 extern "C" {
     pub fn mvt_rewrite(bytes: *const u8, len: usize, out: *mut Bytes, fault: *mut Fault) -> u32;
+    pub fn mvt_mend(bytes: *const u8, len: usize, out: *mut Mended, fault: *mut Fault) -> u32;
     pub fn mvt_extract(
         bytes: *const u8,
         len: usize,
@@ -472,5 +496,6 @@ extern "C" {
     pub fn mvt_tile_free(tile: *mut Tile);
     pub fn mvt_summary_free(summary: *mut Summary);
     pub fn mvt_findings_free(findings: *mut Findings);
+    pub fn mvt_mended_free(mended: *mut Mended);
     pub fn mvt_surroundings_free(surroundings: *mut Surroundings);
 }

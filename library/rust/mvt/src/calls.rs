@@ -23,30 +23,30 @@ pub(crate) fn no_bytes() -> sys::Bytes {
     }
 }
 
-/// What a call puts into `out`, or what its status means.
-fn made(
-    bytes: &[u8],
-    call: impl FnOnce(*mut sys::Bytes, *mut sys::Fault) -> u32,
-) -> Result<Bytes, Error> {
-    let (mut out, mut fault) = (no_bytes(), no_fault());
-    match call(&mut out, &mut fault) {
-        // SAFETY: the call filled the bytes, which nothing else gives back.
-        sys::OK => Ok(unsafe { Bytes::adopt(out) }),
+/// A call of the library that makes something of a tile.
+type Making<T> = unsafe extern "C" fn(*const u8, usize, *mut T, *mut sys::Fault) -> u32;
+
+/// What a call puts into `out`, which is empty, or what its status means.
+pub(crate) fn filled<T>(bytes: &[u8], mut out: T, call: Making<T>) -> Result<T, Error> {
+    let mut fault = no_fault();
+    // SAFETY: the bytes are lent for the call, and the outputs have room.
+    match unsafe { call(bytes.as_ptr(), bytes.len(), &mut out, &mut fault) } {
+        sys::OK => Ok(out),
         // SAFETY: the fault is filled where the bytes are refused.
         status => Err(unsafe { error_of(status, bytes, &fault) }),
     }
 }
 
-/// A call of the library that makes bytes of a tile.
-type Making = unsafe extern "C" fn(*const u8, usize, *mut sys::Bytes, *mut sys::Fault) -> u32;
+/// The bytes that a call makes.
+fn bytes_of(bytes: &[u8], call: Making<sys::Bytes>) -> Result<Bytes, Error> {
+    let made = filled(bytes, no_bytes(), call)?;
+    // SAFETY: the call filled the bytes, which nothing else gives back.
+    Ok(unsafe { Bytes::adopt(made) })
+}
 
 /// The text that a call makes.
-fn text(bytes: &[u8], call: Making) -> Result<String, Error> {
-    // SAFETY: the bytes are lent for the call, and the outputs have room.
-    let text = made(bytes, |out, fault| unsafe {
-        call(bytes.as_ptr(), bytes.len(), out, fault)
-    })?;
-    Ok(text.into_text())
+fn text(bytes: &[u8], call: Making<sys::Bytes>) -> Result<String, Error> {
+    Ok(bytes_of(bytes, call)?.into_text())
 }
 
 /// Whether the bytes are a tile. Makes nothing, so this is the fastest check.
@@ -147,10 +147,7 @@ pub fn read_layer(bytes: &[u8], name: &str) -> Result<Tile, Error> {
 ///
 /// [`Error::Refused`], [`Error::TooLarge`], [`Error::OutOfMemory`].
 pub fn rewrite(bytes: &[u8]) -> Result<Bytes, Error> {
-    // SAFETY: as in `read`.
-    made(bytes, |out, fault| unsafe {
-        sys::mvt_rewrite(bytes.as_ptr(), bytes.len(), out, fault)
-    })
+    bytes_of(bytes, sys::mvt_rewrite)
 }
 
 /// The canonical bytes of the named layers of version 2, in the order of the tile. A repeated name counts once;
@@ -171,27 +168,25 @@ pub fn rewrite(bytes: &[u8]) -> Result<Bytes, Error> {
 /// [`Error::OutOfMemory`].
 pub fn extract(bytes: &[u8], names: &[&str]) -> Result<Bytes, Error> {
     let wanted: Vec<sys::Bytes> = names.iter().map(|name| lent(name.as_bytes())).collect();
-    let mut missing = None;
-    let told = made(bytes, |out, fault| {
-        let (start, count, mut index) = (wanted.as_ptr(), wanted.len(), 0);
-        // SAFETY: as in `read_within`; the names are lent for the call, and the index has room.
-        let status = unsafe {
-            sys::mvt_extract(
-                bytes.as_ptr(),
-                bytes.len(),
-                start,
-                count,
-                out,
-                fault,
-                &mut index,
-            )
-        };
-        missing = (status == sys::NO_LAYER).then_some(index);
-        status
-    });
-    match missing {
-        Some(index) => Err(Error::NoLayer(names[index].into())),
-        None => told,
+    let (mut out, mut fault, mut missing) = (no_bytes(), no_fault(), 0);
+    // SAFETY: the bytes and the names are lent for the call, and the outputs have room.
+    let status = unsafe {
+        sys::mvt_extract(
+            bytes.as_ptr(),
+            bytes.len(),
+            wanted.as_ptr(),
+            wanted.len(),
+            &mut out,
+            &mut fault,
+            &mut missing,
+        )
+    };
+    match status {
+        // SAFETY: the call filled the bytes, which nothing else gives back.
+        sys::OK => Ok(unsafe { Bytes::adopt(out) }),
+        sys::NO_LAYER => Err(Error::NoLayer(names[missing].into())),
+        // SAFETY: the fault is filled where the bytes are refused.
+        status => Err(unsafe { error_of(status, bytes, &fault) }),
     }
 }
 

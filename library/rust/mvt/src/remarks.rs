@@ -1,7 +1,7 @@
 //! What is noted and found of a tile that is accepted.
 
-use crate::calls::no_fault;
-use crate::error::{error_of, words};
+use crate::calls::filled;
+use crate::error::words;
 use crate::output::list;
 use crate::{sys, Error, Point};
 use std::fmt;
@@ -98,32 +98,25 @@ pub enum Finding {
 ///
 /// [`Error::Refused`], [`Error::OutOfMemory`].
 pub fn survey(bytes: &[u8]) -> Result<Summary, Error> {
-    let mut out = sys::Summary {
+    let empty = sys::Summary {
         layers: 0,
         features: 0,
         is_canonical: 0,
         notes: std::ptr::null(),
         note_count: 0,
     };
-    let mut fault = no_fault();
-    // SAFETY: the bytes are lent for the call, and the outputs have room.
-    match unsafe { sys::mvt_survey(bytes.as_ptr(), bytes.len(), &mut out, &mut fault) } {
-        sys::OK => {
-            // SAFETY: the call filled the list, which is given back behind this.
-            let rows = unsafe { list(out.notes, out.note_count) };
-            let told = Summary {
-                layers: out.layers,
-                features: out.features,
-                is_canonical: out.is_canonical == 1,
-                notes: rows.iter().filter_map(note_of).collect(),
-            };
-            // SAFETY: nothing looks at the list any more.
-            unsafe { sys::mvt_summary_free(&mut out) };
-            Ok(told)
-        }
-        // SAFETY: the fault is filled where the bytes are refused.
-        status => Err(unsafe { error_of(status, bytes, &fault) }),
-    }
+    let mut out = filled(bytes, empty, sys::mvt_survey)?;
+    // SAFETY: the call filled the list, which is given back behind this.
+    let rows = unsafe { list(out.notes, out.note_count) };
+    let told = Summary {
+        layers: out.layers,
+        features: out.features,
+        is_canonical: out.is_canonical == 1,
+        notes: rows.iter().filter_map(note_of).collect(),
+    };
+    // SAFETY: nothing looks at the list any more.
+    unsafe { sys::mvt_summary_free(&mut out) };
+    Ok(told)
 }
 
 /// What viewers stumble over, in the order of the layers, features and attributes.
@@ -132,24 +125,17 @@ pub fn survey(bytes: &[u8]) -> Result<Summary, Error> {
 ///
 /// [`Error::Refused`], [`Error::OutOfMemory`].
 pub fn lint_rows(bytes: &[u8]) -> Result<Vec<Finding>, Error> {
-    let mut out = sys::Findings {
+    let empty = sys::Findings {
         rows: std::ptr::null(),
         count: 0,
     };
-    let mut fault = no_fault();
-    // SAFETY: the bytes are lent for the call, and the outputs have room.
-    match unsafe { sys::mvt_lint_rows(bytes.as_ptr(), bytes.len(), &mut out, &mut fault) } {
-        sys::OK => {
-            // SAFETY: the call filled the list, which is given back behind this.
-            let rows = unsafe { list(out.rows, out.count) };
-            let found = rows.iter().filter_map(finding_of).collect();
-            // SAFETY: nothing looks at the list any more.
-            unsafe { sys::mvt_findings_free(&mut out) };
-            Ok(found)
-        }
-        // SAFETY: the fault is filled where the bytes are refused.
-        status => Err(unsafe { error_of(status, bytes, &fault) }),
-    }
+    let mut out = filled(bytes, empty, sys::mvt_lint_rows)?;
+    // SAFETY: the call filled the list, which is given back behind this.
+    let rows = unsafe { list(out.rows, out.count) };
+    let found = rows.iter().filter_map(finding_of).collect();
+    // SAFETY: nothing looks at the list any more.
+    unsafe { sys::mvt_findings_free(&mut out) };
+    Ok(found)
 }
 
 /// `None` for a kind of a later library.

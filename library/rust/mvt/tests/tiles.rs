@@ -1,149 +1,11 @@
-//! Each example tile, whole or broken, has what the program `mvt` says of it. The environment names the program (MVT) and
-//! the folder of the tiles (MVT_TILES).
+//! What is Rust of the crate: its types, errors, threads and lists. `cases` has what the program `mvt` says of tiles.
 
-use mvt::{Builder, Error, Finding, Kind, Note, Point, Value};
+mod cases;
+
+use cases::told::cases;
+use mvt::{Builder, Change, Error, Finding, Kind, Note, Point, Value};
 use std::collections::HashSet;
-use std::ffi::OsStr;
-use std::path::PathBuf;
-use std::process::{Command, Output, Stdio};
-use std::{env, fs, io, str, thread};
-
-fn tiles() -> Vec<(String, Vec<u8>)> {
-    let folder = env::var("MVT_TILES").expect("MVT_TILES names the folder of the example tiles");
-    let mut paths: Vec<PathBuf> = fs::read_dir(folder)
-        .unwrap()
-        .map(|entry| entry.unwrap().path())
-        .filter(|path| path.extension() == Some(OsStr::new("mvt")))
-        .collect();
-    paths.sort();
-    assert!(paths.len() > 30, "the example tiles, broken ones included");
-    paths
-        .into_iter()
-        .map(|path| (path.display().to_string(), fs::read(path).unwrap()))
-        .collect()
-}
-
-/// What the program says of a file.
-fn told(words: &[&str], path: &str) -> Output {
-    let program = env::var("MVT").expect("MVT names the program");
-    let input = Stdio::from(fs::File::open(path).unwrap());
-    Command::new(program)
-        .args(words)
-        .stdin(input)
-        .output()
-        .unwrap()
-}
-
-#[test]
-fn each_tile_is_as_the_program_has_it() {
-    for (path, bytes) in tiles() {
-        let check = told(&["check"], &path);
-        match mvt::judge(&bytes) {
-            Ok(()) => good(&path, &bytes, &check),
-            Err(error) => refused(&path, &bytes, &check, &error),
-        }
-    }
-}
-
-fn good(path: &str, bytes: &[u8], check: &Output) {
-    assert_eq!(check.status.code(), Some(0), "{path}");
-    assert_eq!(
-        mvt::report(bytes).unwrap().as_bytes(),
-        check.stdout,
-        "{path}"
-    );
-    let lint = told(&["lint"], path).stdout;
-    assert_eq!(mvt::lint(bytes).unwrap().as_bytes(), lint, "{path}");
-    let survey = mvt::survey(bytes).unwrap();
-    let canonical = if survey.is_canonical { "yes" } else { "no" };
-    let (layers, features) = (survey.layers, survey.features);
-    let first = format!("ok layers {layers} features {features} canonical {canonical}");
-    let lines: Vec<_> = str::from_utf8(&check.stdout).unwrap().lines().collect();
-    assert_eq!(
-        (lines[0], lines.len() - 1),
-        (first.as_str(), survey.notes.len()),
-        "{path}"
-    );
-    let found = mvt::lint_rows(bytes).unwrap();
-    assert_eq!(
-        found.len(),
-        lint.split(|byte| *byte == b'\n').count() - 1,
-        "{path}"
-    );
-    let json = mvt::to_json(bytes).unwrap() + "\n";
-    assert_eq!(json.as_bytes(), told(&["show"], path).stdout, "{path}");
-    let svg = mvt::to_svg(bytes).unwrap() + "\n";
-    assert_eq!(svg.as_bytes(), told(&["draw"], path).stdout, "{path}");
-    let canonical = told(&["rewrite"], path).stdout;
-    assert_eq!(*mvt::rewrite(bytes).unwrap(), canonical, "{path}");
-    let tile = mvt::read(bytes).unwrap();
-    assert_eq!(*mvt::write(&tile).unwrap(), canonical, "{path}");
-    let mut decoder = mvt::Decoder::new().unwrap();
-    for piece in bytes.chunks(7) {
-        decoder.feed(piece).unwrap();
-    }
-    assert_eq!(
-        *mvt::write(&decoder.finish().unwrap()).unwrap(),
-        canonical,
-        "{path}"
-    );
-    for layer in tile.layers().filter(|layer| layer.version() == 2) {
-        let alone = mvt::read_layer(bytes, layer.name()).unwrap();
-        assert_eq!(
-            format!("{:?}", alone.layers().next().unwrap()),
-            format!("{layer:?}"),
-            "{path}"
-        );
-        let extracted = mvt::extract(bytes, &[layer.name()]).unwrap();
-        assert_eq!(extracted, mvt::write(&alone).unwrap(), "{path}");
-        let words = ["extract", layer.name()];
-        assert_eq!(*extracted, told(&words, path).stdout, "{path}");
-    }
-}
-
-/// What is said of a fault, and its bytes, are lines of what the program explains.
-fn explained(path: &str, fault: &mvt::Refused) {
-    let out = told(&["explain"], path).stdout;
-    let lines: Vec<_> = str::from_utf8(&out).unwrap().lines().collect();
-    let bytes = fault.bytes.as_ref().unwrap();
-    let place = match bytes.end - bytes.start {
-        0 => format!("before byte {}", bytes.start),
-        1 => format!("byte {}", bytes.start),
-        _ => format!("bytes {} to {}", bytes.start, bytes.end - 1),
-    };
-    let is_place = |line: &&str| line.split(", ").next() == Some(&place);
-    assert!(lines.iter().any(is_place), "{path}: {place}: {lines:?}");
-    let said = fault.explanation.as_str();
-    assert!(lines.contains(&said), "{path}: {said}: {lines:?}");
-}
-
-fn refused(path: &str, bytes: &[u8], check: &Output, error: &Error) {
-    assert_eq!(check.status.code(), Some(1), "{path}");
-    let line = str::from_utf8(&check.stderr).unwrap().trim_end();
-    match error {
-        Error::Refused(fault) => {
-            assert_eq!(fault.to_string(), line, "{path}");
-            assert_eq!(error.to_string(), format!("{line}: {}", fault.explanation));
-            explained(path, fault);
-        }
-        other => panic!("{path}: {other}"),
-    }
-    for other in [
-        mvt::read(bytes).map(drop),
-        mvt::rewrite(bytes).map(drop),
-        mvt::to_json(bytes).map(drop),
-        mvt::survey(bytes).map(drop),
-        mvt::lint_rows(bytes).map(drop),
-        mvt::extract(bytes, &[]).map(drop),
-    ] {
-        assert_eq!(other.unwrap_err(), *error, "{path}");
-    }
-    let mut decoder = mvt::Decoder::new().unwrap();
-    let told = io::copy(&mut &bytes[..], &mut decoder).map_err(|error| error.to_string());
-    let last = decoder.finish().unwrap_err().to_string();
-    assert!(last.starts_with(&format!("{line}: ")), "{path}: {last}");
-    assert!(told.is_ok() || told == Err(last), "{path}");
-}
+use std::thread;
 
 /// A tile of three layers: a feature with each kind of value, a ring and integers, and bytes of version 1.
 fn made() -> mvt::Bytes {
@@ -206,8 +68,8 @@ fn geometries() {
 /// Each language's builder makes the same bytes of values of all kinds, and what was read is what is built.
 #[test]
 fn each_kind_of_value() {
-    let path = PathBuf::from(env::var("MVT_TILES").unwrap()).join("kinds.mvt");
-    let wanted = fs::read(path).unwrap();
+    let kinds = cases().into_iter().find(|case| case.name == "kinds");
+    let wanted = kinds.unwrap().tile;
     let mut builder = Builder::new();
     builder.layer("a", 4096).feature(Kind::Points).point(25, 17);
     builder.tag("s", "x").tag("f", 2.5_f32).tag("d", 3.5);
@@ -479,38 +341,27 @@ fn a_decoder_knows_what_looks_compressed() {
     }
 }
 
-/// Tiles with changed bytes, read by several threads. MVT_CHANGED says how many there are.
+/// The tiles of all cases, changed ones among them, read by several threads.
 #[test]
-fn changed_tiles_from_several_threads() {
-    let count: u64 = env::var("MVT_CHANGED").map_or(1_000, |count| count.parse().unwrap());
-    let tiles: Vec<_> = tiles()
-        .into_iter()
-        .filter(|(_, tile)| !tile.is_empty() && tile.len() < 100_000)
-        .collect();
+fn tiles_from_several_threads() {
+    let all = cases();
     thread::scope(|scope| {
         for first in 0..4 {
-            let tiles = &tiles;
-            scope.spawn(move || {
-                for number in (first..count).step_by(4) {
-                    changed(&tiles[number as usize % tiles.len()].1, number);
-                }
-            });
+            let mine = all.iter().skip(first).step_by(4);
+            scope.spawn(move || mine.for_each(|case| read_again(&case.tile)));
         }
     });
 }
 
-fn changed(tile: &[u8], number: u64) {
-    let mut bytes = tile.to_vec();
-    let chance = number.wrapping_mul(0x9e37_79b9_7f4a_7c15);
-    let at = (chance >> 16) as usize % bytes.len();
-    bytes[at] ^= (chance >> 8) as u8;
-    if let Ok(tile) = mvt::read(&bytes) {
+/// What is read is written, and read again as it was.
+fn read_again(bytes: &[u8]) {
+    if let Ok(tile) = mvt::read(bytes) {
         let shown = format!("{tile:?}");
         let canonical = mvt::write(&tile).unwrap();
         assert_eq!(format!("{:?}", mvt::read(&canonical).unwrap()), shown);
-        assert_eq!(canonical, mvt::rewrite(&bytes).unwrap());
+        assert_eq!(canonical, mvt::rewrite(bytes).unwrap());
     } else {
-        assert!(matches!(mvt::judge(&bytes), Err(Error::Refused(_))));
+        assert!(matches!(mvt::judge(bytes), Err(Error::Refused(_))));
     }
 }
 
@@ -619,4 +470,43 @@ fn tells_what_is_round_a_fault() {
         (told.layer, told.steps.len(), told.fields.len()),
         (None, 0, 0)
     );
+}
+
+/// The layer `a` with the ring (20, 34), (8, 12), (3, 6), whose area is negative, and a line of one point twice.
+#[test]
+fn mended() {
+    let ring =
+        b"\x1a\x14\x78\x02\x0a\x01a\x12\x0d\x18\x03\x22\x09\x09\x28\x44\x12\x17\x2b\x09\x0b\x0f";
+    let mut builder = Builder::new();
+    let turned = [(20, 34), (3, 6), (8, 12)].map(|(x, y)| Point::new(x, y));
+    let wanted = builder
+        .layer("a", 4096)
+        .feature(Kind::Polygons)
+        .ring(true)
+        .points(&turned)
+        .finish()
+        .unwrap();
+    let told = mvt::mend(ring).unwrap();
+    let change = Change::TurnedRing {
+        layer: 0,
+        feature: 0,
+        part: 0,
+    };
+    assert_eq!((told.bytes, told.changes), (wanted, vec![change]));
+    let line = b"\x1a\x11\x78\x02\x0a\x01a\x12\x0a\x18\x02\x22\x06\x09\x04\x04\x0a\0\0";
+    let told = mvt::mend(line).unwrap();
+    assert_eq!(
+        told.changes,
+        [Change::FeatureLeftOut {
+            layer: 0,
+            feature: 0
+        }]
+    );
+    assert_eq!(
+        told.bytes,
+        Builder::new().layer("a", 4096).finish().unwrap()
+    );
+    let again = mvt::mend(&told.bytes).unwrap();
+    assert_eq!((&again.bytes, again.changes.len()), (&told.bytes, 0));
+    assert!(matches!(mvt::mend(&[0]), Err(Error::Refused(_))));
 }

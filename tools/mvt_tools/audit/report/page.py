@@ -11,7 +11,7 @@ from mvt._mvt import cause_text
 from ...stores import Store
 from ..judging import ACCEPTED, BROKEN, EMPTY, NOT_UNPACKED, REFUSED, UNREAD, VERDICTS
 from ..results import Results
-from ..summary import misplaced
+from ..summary import mended, misplaced
 from . import pictures
 from .examples import Example, examples
 from .maps import maps
@@ -65,7 +65,12 @@ def _head(found: Dict[str, Any]) -> str:
     stores = ", ".join(f"<code>{escape(store['path'])}</code>" for store in found["stores"])
     when = time.strftime("%Y-%m-%d %H:%M")
     verdict = f'<p class="quiet">{stores}, {when}</p><p class="verdict {"bad" if broken else "good"}">{said}.</p>'
-    return verdict + _head_of_findings(found) + _head_of_places(found) + _head_of_metadata(found)
+    return verdict + _head_of_mended(found) + _head_of_findings(found) + _head_of_places(found) + _head_of_metadata(found)
+
+
+def _head_of_mended(found: Dict[str, Any]) -> str:
+    """What was mended in a copy of the store."""
+    return "".join(f"<p>{escape(line[0].upper() + line[1:])}.</p>" for line in mended(found))
 
 
 def _head_of_findings(found: Dict[str, Any]) -> str:

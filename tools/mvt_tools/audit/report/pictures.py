@@ -8,12 +8,12 @@ import mvt
 
 from mvt._around import Around, Path
 
-from .fields import FEATURES, LAYERS, TAGS, spelled, without
 from .shapes import Point, position
 
-# Larger pictures are left out of the page, and of larger tiles none is made.
+# Larger pictures are left out of the page, and of larger tiles, or tiles with more rows, none is made.
 MOST = 400_000
 MOST_OF_TILE = 2_000_000
+_MOST_ROWS = 1 << 24
 # How long the broken parts of one tile are looked for.
 SECONDS = 2.0
 
@@ -39,10 +39,19 @@ def _without(tile: bytes, fault: mvt.Refused) -> bytes:
     if feature is None:
         return tile[: layer.start] + tile[layer.end :]
     body = tile[layer.body : feature.start] + tile[feature.end : layer.end]
-    return tile[: layer.start] + spelled(LAYERS, body) + tile[layer.end :]
+    return tile[: layer.start] + _layer(body) + tile[layer.end :]
 
 
-def mended(tile: bytes) -> Tuple[Optional[bytes], int]:
+def _layer(body: bytes) -> bytes:
+    """The field of a layer (field 3 of a tile) that has these bytes."""
+    head, size = bytearray([3 << 3 | 2]), len(body)
+    while size > 127:
+        head.append(size & 127 | 128)
+        size >>= 7
+    return bytes([*head, size]) + body
+
+
+def good_part(tile: bytes) -> Tuple[Optional[bytes], int]:
     """The tile without its broken parts, and how many these are; None where they are too many to be looked for."""
     begun, dropped = time.monotonic(), 0
     while time.monotonic() - begun < SECONDS:
@@ -58,8 +67,13 @@ def mended(tile: bytes) -> Tuple[Optional[bytes], int]:
 
 
 def _drawing(tile: bytes) -> str:
-    """The picture of a tile without attributes, since a text that many features have would stand in it for each."""
-    return _TITLE.sub("", mvt.to_svg(without(tile, (LAYERS, FEATURES, TAGS))))
+    """The picture of a tile without attributes, since a text that many features have would stand in it for each. Raises
+    MemoryError where it has too many rows."""
+    drawn = mvt.read(tile, _MOST_ROWS)
+    for layer in drawn.layers:
+        if isinstance(layer, mvt.Layer):
+            layer.features = [mvt.Feature(each.id, {}, each.kind, each.geometry) for each in layer.features]
+    return _TITLE.sub("", mvt.to_svg(mvt.write(drawn)))
 
 
 def _document(content: str, box: str = "0 0 1 1") -> str:
@@ -128,10 +142,21 @@ def _view(drawn: List[Path], place: Optional[Point], extent: int) -> _View:
     return _View(left, top, room)
 
 
+def _good(tile: bytes) -> Tuple[Optional[str], int]:
+    """The drawing of what is good of a tile, or None where that is too much, and how many parts aren't."""
+    if len(tile) > MOST_OF_TILE:
+        return None, 0
+    good, dropped = good_part(tile)
+    try:
+        return None if good is None else _drawing(good), dropped
+    except MemoryError:
+        return None, dropped
+
+
 def of_tile(tile: bytes, fault: mvt.Refused) -> Optional[Picture]:
     """The whole tile: what is good of it, and the broken feature in red, with a circle round the place; with the tile's
     edge where the feature goes beyond it."""
-    good, dropped = mended(tile) if len(tile) <= MOST_OF_TILE else (None, 0)
+    good, dropped = _good(tile)
     drawn, extent, _ = _drawn(tile, fault)
     found = position(drawn, fault.at)
     place = None if found is None else found[0].points[found[1]]
@@ -139,7 +164,7 @@ def of_tile(tile: bytes, fault: mvt.Refused) -> Optional[Picture]:
     over = "".join(_line(path, _RED, f"{0.5 * view.side:g}%") for path in drawn)
     if place is not None:
         over += _ring(place, extent, view.side)
-    parts = [] if good is None else [f'<svg width="1" height="1">{_drawing(good)}</svg>']
+    parts = [] if good is None else [f'<svg width="1" height="1">{good}</svg>']
     if not view.is_tile():
         parts.append(_stroke("M0 0h1v1h-1z", "#888", f"{0.004 * view.side:g}"))
     if over:

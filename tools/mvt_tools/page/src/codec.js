@@ -123,9 +123,22 @@ class OpenTile {
     return this.#call('around');
   }
 
+  /** How long the canonical bytes are, and where the tile first differs from them, as JSON: differ.py says what. */
+  canonical() {
+    return this.#call('canonical');
+  }
+
   /** The canonical bytes. */
   rewrite() {
     return this.#call('rewrite');
+  }
+
+  /** The tile mended, `mended`, and `told` of it, which mending.py says. */
+  async mend() {
+    const answer = await this.#call('mend');
+    if (answer.status !== OK) return answer;
+    const [told, mended] = partsOf(answer.bytes);
+    return { status: OK, told: JSON.parse(new TextDecoder().decode(told)), mended };
   }
 
   /** The canonical bytes of the named layers. */

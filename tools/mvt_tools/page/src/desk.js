@@ -1,6 +1,5 @@
 // The tile that is open, and what the page may ask of it. It lives in the worker, so that nothing here makes the page wait.
 import { Gone, NO_LAYER, OK } from './codec.js';
-import { firstDifference } from './differ.js';
 import { FeatureTable } from './features.js';
 import { prepared, readFile } from './files.js';
 import { JsonIndex } from './json-index.js';
@@ -161,10 +160,14 @@ export class Desk {
   /** Whether the bytes are the canonical ones; if not, the length of those, and what differs first. */
   async canonical() {
     if (this.#survey?.isCanonical) return { isSame: true };
-    const { status, bytes } = await this.#tile.rewrite();
-    if (status !== OK) return { isSame: false, status };
-    const difference = firstDifference(this.#bytes, bytes);
-    return { isSame: false, length: bytes.length, said: difference?.said ?? null, at: difference?.at ?? 0, trail: difference?.trail ?? [] };
+    const { status, bytes } = await this.#tile.canonical();
+    return status === OK ? JSON.parse(text(bytes)) : { isSame: false, status };
+  }
+
+  /** `{status, told, bytes}`: the tile mended, which is a copy. */
+  async mended() {
+    const { status, told, mended } = await this.#tile.mend();
+    return { status, told, bytes: mended?.slice() };
   }
 
   /** Of each layer the bytes and those of its geometries; null where there is no memory for it. */

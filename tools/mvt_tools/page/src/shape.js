@@ -8,12 +8,12 @@ const FAULT = { light: '#c21807', dark: '#ff8d7a' };
 /** Arrows show where to, where there are few steps. */
 const ARROWS = 60;
 
-/** A figure of a shape (around.py). */
-export function shapeOf(shape) {
+/** A figure of a shape (around.py), with words in front of those that it has. */
+export function shapeOf(shape, front = '') {
   const { count, mark } = shape;
   const before = count === 0 ? 'It has no position before the fault.' : `The feature up to its fault: ${counted(count, 'position')}.`;
   const what = mark === null ? `The feature, as far as it can be read: ${counted(count, 'position')}.` : `${before} The fault comes ${count === 0 ? 'at' : 'after'} (${mark.map(signed).join(', ')}), where the circle is.`;
-  const told = isEdgeSeen(shape) ? `${what} The dashed line is the tile’s edge.` : what;
+  const told = `${front}${what}${isEdgeSeen(shape) ? ' The dashed line is the tile’s edge.' : ''}`;
   const canvas = element('canvas', { role: 'img', 'aria-label': told, width: SIDE * 2, height: SIDE * 2 });
   const draw = () => drawShape(canvas.getContext('2d'), shape);
   draw();

@@ -4,13 +4,14 @@ import { foreign, plain } from './foreign.js';
 import { HexView } from './hex.js';
 import { jsonView } from './json-view.js';
 import { Look } from './look.js';
+import { isCurable, mendingOf } from './mended.js';
 import { showFindings, showNotes } from './notes.js';
 import { showFault } from './refused.js';
-import { placeIn } from './names.js';
+import { placeIn, stemOf } from './names.js';
 import { Saving } from './saving.js';
 import { counted, grouped, size, sizeWith } from './text.js';
 import { lineOf, titleOf } from './verdict.js';
-import { sayTrail } from './words.js';
+import { sayDifference } from './words.js';
 
 const CANONICAL = 'A tile may be spelled in many ways: fields in another order, numbers with more bytes than they need, keys that no feature has. The canonical form is one of them, the same for equal tiles, and never needed to draw them. “Save canonical bytes” writes it.';
 
@@ -57,8 +58,19 @@ export class TileView {
     const { verdict, facts, place, shape } = this.#opened;
     if (place !== null) {
       const bytes = await this.#client.ask('bytes');
-      this.rest.append(...showFault(bytes, verdict, { place, shape }, this.#data.rules));
+      const [fault, ...hex] = showFault(bytes, verdict, { place, shape }, this.#data.rules);
+      this.rest.append(fault, ...(isCurable(verdict.fault) ? [this.#mending()] : []), ...hex);
     } else if (facts !== null) await this.#fillAccepted();
+  }
+
+  /** A button that mends the tile, and shows it then as any other. */
+  #mending() {
+    const stem = stemOf(this.#name);
+    return mendingOf(stem, () => this.#client.ask('mended'), async (bytes) => {
+      const name = `${stem}.mended.mvt`;
+      const opened = await this.#client.ask('open', { source: bytes, name });
+      return new TileView(this.#client, name, opened, { place: this.#placed, data: this.#data });
+    });
   }
 
   /** What takes longer, the notes and the canonical form, comes when the picture is drawn. */
@@ -96,12 +108,11 @@ export class TileView {
     return kinds.length === 0 ? '' : showFindings(this.#client, kinds, this.#data.findings ?? {}, this.#jump);
   }
 
-  #sayCanonical(box, { isSame, length, said, at, trail, status }) {
+  #sayCanonical(box, { isSame, length, difference, status }) {
     if (isSame) box.textContent = 'In canonical form.';
     else if (status !== undefined) box.textContent = 'Not in canonical form, which would be more than 64 MiB or more than the memory there is.';
     else {
-      const where = trail.map(sayTrail).join(' › ');
-      const first = said === null ? '' : ` First difference, at byte ${grouped(at)}${where === '' ? '' : ` (${where})`}: ${said}`;
+      const first = difference === null ? '' : ` First difference, at byte ${sayDifference(difference)}`;
       const long = length === this.#opened.length ? 'is as long' : `has ${size(length)}`;
       box.textContent = `Not in canonical form, which ${long}.${first}`;
     }

@@ -69,10 +69,14 @@ export function sayHolders({ layer, feature }, { layerName, featureId }) {
   return [`In layer ${layer}`, ...name, feature === null ? '' : `, feature ${feature}${id}`];
 }
 
+/** Where a tile differs from its canonical form, and what differs. */
+export function sayDifference({ at, trail, said }) {
+  const where = trail.map(sayTrail).join(' › ');
+  return `${grouped(at)}${where === '' ? '' : ` (${where})`}: ${said}`;
+}
+
 /** A step of the trail: `layer 0`, `geometry`. */
-export function sayTrail(step) {
-  if (step.field.number === null) return 'a broken field';
-  if (step.name === null) return `field ${step.field.number}`;
-  if (step.index === null) return `field ${step.field.number} (${step.name})`;
-  return ['layer', 'feature', 'key', 'value'].includes(step.name) ? `${step.name} ${step.index}` : step.name;
+function sayTrail({ name, number, index }) {
+  if (name === null) return `field ${number}`;
+  return ['layer', 'feature', 'key', 'value'].includes(name) ? `${name} ${index}` : name;
 }

@@ -1,0 +1,62 @@
+"""Tiles that are mended."""
+
+from dataclasses import dataclass
+from struct import Struct
+from typing import List, NamedTuple, Optional, Sequence, Union
+
+from ._mvt import mend_rows
+from ._numbers import CHANGES
+
+_Buffer = Union[bytes, bytearray, memoryview]
+
+# A change, as mvt.h has it.
+ROW = Struct("<I4xQQQQ")
+
+
+@dataclass(frozen=True)
+class Change:
+    """What `mend` changed, with its place in the tile as it stood, counted from 0.
+
+    `kind` is "TurnedRing", a ring that is told in the other direction; "RepeatedPoint", `count` points that equal the one
+    before them and are left out; "PartLeftOut", a line or ring that has too few points then, or whose exterior ring is left
+    out; or "FeatureLeftOut", where none is left. `part` is a line, or a ring through all polygons of the feature. Its text is
+    that of `mvt mend`.
+    """
+
+    kind: str
+    layer: int
+    feature: int
+    part: Optional[int] = None
+    count: Optional[int] = None
+
+    def __str__(self) -> str:
+        part = "" if self.part is None else f" {self.part}"
+        count = "" if self.count is None else f" count {self.count}"
+        return f"layer {self.layer} feature {self.feature}: {self.kind}{part}{count}"
+
+
+class Mended(NamedTuple):
+    """A tile that was mended: its canonical bytes, and what was changed in the order of the layers, features and parts."""
+
+    bytes: bytes
+    changes: List[Change]
+
+
+def mend(tile: _Buffer) -> Mended:
+    """A tile with the two rules mended that producers break most: a point that equals the one before it (ZeroSegment), and
+    a first ring that goes the wrong way round (FirstRing).
+
+    A tile that keeps every rule comes as `rewrite` makes it, without changes. Raises Refused, with the fault of the tile as it
+    stands, where it breaks another rule too, and TooLarge.
+    """
+    made, rows = mend_rows(tile)
+    return Mended(made, list(map(change_of, ROW.iter_unpack(rows))))
+
+
+def change_of(row: Sequence[int]) -> Change:
+    """The change that a row of the library tells."""
+    kind, layer, feature, part, count = row
+    name = CHANGES[kind]
+    return Change(
+        name, layer, feature, None if name == "FeatureLeftOut" else part, count if name == "RepeatedPoint" else None
+    )

@@ -1,0 +1,128 @@
+//! Each case, whole or broken, is as the program `mvt` says.
+
+pub mod told;
+
+use mvt::{Decoder, Error, Refused};
+use std::io;
+use told::{cases, Case};
+
+/// Pieces of a tile, of which there aren't too many.
+fn pieces(tile: &[u8]) -> std::slice::Chunks<'_, u8> {
+    tile.chunks(if tile.len() < 100_000 { 7 } else { 1 << 16 })
+}
+
+#[test]
+fn each_case_is_as_the_program_says() {
+    let all = cases();
+    assert!(all.len() > 60, "the example tiles, broken ones included");
+    for case in &all {
+        match mvt::judge(&case.tile) {
+            Ok(()) => accepted(case),
+            Err(Error::Refused(fault)) => refused(case, *fault),
+            Err(other) => panic!("{}: {other}", case.name),
+        }
+    }
+}
+
+fn accepted(case: &Case) {
+    let (name, tile) = (&case.name, case.tile.as_slice());
+    let canonical = case.bytes("canonical");
+    assert_eq!(mvt::report(tile).unwrap(), case.said("check"), "{name}");
+    assert_eq!(mvt::lint(tile).unwrap(), case.said("lint"), "{name}");
+    remarked(case);
+    let (json, svg) = (mvt::to_json(tile).unwrap(), mvt::to_svg(tile).unwrap());
+    assert_eq!(json + "\n", case.said("show"), "{name}");
+    assert_eq!(svg + "\n", case.said("draw"), "{name}");
+    assert_eq!(*mvt::rewrite(tile).unwrap(), canonical, "{name}");
+    let read = mvt::read(tile).unwrap();
+    assert_eq!(*mvt::write(&read).unwrap(), canonical, "{name}");
+    let mut decoder = Decoder::new().unwrap();
+    pieces(tile).for_each(|piece| decoder.feed(piece).unwrap());
+    let decoded = mvt::write(&decoder.finish().unwrap()).unwrap();
+    assert_eq!(*decoded, canonical, "{name}");
+    let mended = mvt::mend(tile).unwrap();
+    assert_eq!(
+        (&*mended.bytes, mended.changes.len()),
+        (&canonical[..], 0),
+        "{name}"
+    );
+    extracted(case, &read);
+}
+
+/// The notes and the findings are as many as the lines, and the counts are theirs.
+fn remarked(case: &Case) {
+    let survey = mvt::survey(&case.tile).unwrap();
+    let canonical = if survey.is_canonical { "yes" } else { "no" };
+    let (layers, features) = (survey.layers, survey.features);
+    let first = format!("ok layers {layers} features {features} canonical {canonical}");
+    let lines: Vec<_> = case.said("check").lines().collect();
+    let told = (lines[0], lines.len() - 1);
+    assert_eq!(told, (&*first, survey.notes.len()), "{}", case.name);
+    let found = mvt::lint_rows(&case.tile).unwrap();
+    assert_eq!(
+        found.len(),
+        case.said("lint").lines().count(),
+        "{}",
+        case.name
+    );
+}
+
+fn extracted(case: &Case, read: &mvt::Tile) {
+    for (layer, wanted) in case.layers() {
+        let alone = mvt::read_layer(&case.tile, layer).unwrap();
+        assert_eq!(alone.layer(layer), read.layer(layer), "{}", case.name);
+        assert_eq!(*mvt::write(&alone).unwrap(), wanted, "{}", case.name);
+        let extracted = mvt::extract(&case.tile, &[layer]).unwrap();
+        assert_eq!(*extracted, wanted, "{}", case.name);
+    }
+}
+
+fn refused(case: &Case, fault: Refused) {
+    let (name, tile) = (&case.name, case.tile.as_slice());
+    let line = case.said("fault").trim_end();
+    assert_eq!(fault.to_string(), line, "{name}");
+    let bytes = fault.bytes.as_ref().unwrap();
+    let place = format!("{} {}\n", bytes.start, bytes.end);
+    assert_eq!(place, case.said("place"), "{name}");
+    let sentence = format!("{}\n", fault.explanation);
+    assert_eq!(sentence, case.said("sentence"), "{name}");
+    let error = mvt::judge(tile).unwrap_err();
+    assert_eq!(error.to_string(), format!("{line}: {}", fault.explanation));
+    for other in [
+        mvt::read(tile).map(drop),
+        mvt::rewrite(tile).map(drop),
+        mvt::to_json(tile).map(drop),
+        mvt::survey(tile).map(drop),
+        mvt::lint_rows(tile).map(drop),
+        mvt::extract(tile, &[]).map(drop),
+    ] {
+        assert_eq!(other.unwrap_err(), error, "{name}");
+    }
+    let mut decoder = Decoder::new().unwrap();
+    let told = io::copy(&mut &*tile, &mut decoder).map_err(|error| error.to_string());
+    let last = decoder.finish().unwrap_err().to_string();
+    assert!(last.starts_with(&format!("{line}: ")), "{name}: {last}");
+    assert!(told.is_ok() || told == Err(last), "{name}");
+    mended(case, &error);
+}
+
+fn mended(case: &Case, error: &Error) {
+    match mvt::mend(&case.tile) {
+        Ok(mended) => {
+            let lines = mended.changes.iter().map(|change| format!("{change}\n"));
+            assert_eq!(
+                lines.collect::<String>(),
+                case.said("change"),
+                "{}",
+                case.name
+            );
+            assert_eq!(*mended.bytes, case.bytes("mended"), "{}", case.name);
+        }
+        Err(other) => assert_eq!(
+            (&other, case.has("mended")),
+            (error, false),
+            "{}",
+            case.name
+        ),
+    }
+}
