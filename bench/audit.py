@@ -21,7 +21,7 @@ from contextlib import closing
 from pathlib import Path
 
 import psutil
-from mvt._mvt import answer, looked_at
+from mvt._mvt import looked_at, survey_rows
 from mvt_tools.audit import engine, processes
 from mvt_tools.audit.judging import judged_part
 from mvt_tools.audit.results import Block, Results
@@ -191,7 +191,7 @@ def alone(tiles, name):
         judged, needed, linted, added = [], [], [], []
         for number in range(TRIED):
             judged.append(spent_by(lambda: judged_part(store, part)))
-            needed.append(spent_by(lambda: [answer("report", unpacked(content)) for content in contents]))
+            needed.append(spent_by(lambda: [survey_rows(unpacked(content)) for content in contents]))
             linted.append(spent_by(lambda: [looked_at(unpacked(content)) for content in contents]))
             added.append(spent_by(lambda: results.add([Block(store.path, number, block)])))  # noqa: B023
         results.close()

@@ -1,5 +1,16 @@
-# Sourced by what counts tests in $passed, $failed and $skipped, with a folder $out and a Python $PYTHON.
+# Sourced by what counts tests in $passed, $failed and $skipped, at the top of the repository. There are a folder $out, and in
+# $PYTHON Debian's own Python where it is there, which has what Debian's packages bring.
 passed=0 failed=0 skipped=0
+export PYTHON=${PYTHON:-$([ -x /usr/bin/python3 ] && echo /usr/bin/python3 || echo python3)}
+out=$(mktemp -d)
+trap 'rm -rf "$out"' EXIT
+
+# built: the library in $BUILT and the program in $MVT, which are built where they aren't there.
+built() {
+  if [ -z "${BUILT:-}" ]; then library/build; fi
+  export BUILT=${BUILT:-$PWD/library/out} MVT=${MVT:-$PWD/crates/mvt_cli/out/mvt_cli}
+  [ -x "$MVT" ] || (cd crates/mvt_cli && rt run -- fields </dev/null)
+}
 
 # check NAME COMMAND..: one test.
 check() {
@@ -44,8 +55,8 @@ pytests() {
     skip "$1" "pytest isn't there"
     return
   fi
-  if "$PYTHON" -c 'import xdist' 2>/dev/null; then several=(-n 2); fi
-  timeout 1500 "$PYTHON" -X dev -m pytest -q -W error -p no:cacheprovider "${several[@]}" "$@" >"$out/log" 2>&1 || true
+  if [ -z "${ALONE:-}" ] && "$PYTHON" -c 'import xdist' 2>/dev/null; then several=(-n 2); fi
+  timeout 7200 "$PYTHON" -X dev -m pytest -q -rs "${several[@]}" "$@" >"$out/log" 2>&1 || true
   counts=$(tail -n 1 "$out/log" | grep -oE '[0-9]+ (passed|failed|errors?|skipped)') || counts="1 failed"
   while read -r count kind; do
     case $kind in
@@ -54,6 +65,7 @@ pytests() {
       *) failed=$((failed + count)) ;;
     esac
   done <<<"$counts"
+  sed -n 's/^SKIPPED \[[0-9]*\] /skipped: /p' "$out/log"
   if [[ $counts =~ failed|error ]]; then
     echo "failed: $1"
     tail -n 200 "$out/log"

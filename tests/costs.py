@@ -1,11 +1,10 @@
 #!/usr/bin/env python3
-"""What proving costs, from nothing, as tables in Markdown: costs.py FOLDER [CRATE..].
+"""What the gate's proofs cost, from nothing, as a table in Markdown: costs.py FOLDER [WORD..]
 
-Clones this repository's HEAD into FOLDER and runs there, crate by crate from the lowest on, with one job: `rt check`,
-`rt check --test` for crates with tests, and `rt must-fail`. Prints minutes of processors by crate, and the functions
-whose lines took longest to come. What each command said is kept in FOLDER/said, and is read again if FOLDER is there:
-a run that was stopped goes on. Run it on an idle machine: it takes some three hours. The parts of .ci/run say
-themselves what they took.
+Clones this repository's HEAD into FOLDER and runs `rt ci` there, with these words (--anew, where this machine has proved the
+same files before). Prints for each crate after how many minutes it was proved, its tests had passed and its wrong bodies were
+refused, and then the minutes of processors of the whole. What `rt ci` said is kept in FOLDER/said, each line behind the
+seconds since it began. The other parts of .ci/run say themselves what they took.
 """
 
 import re
@@ -16,72 +15,23 @@ import time
 from pathlib import Path
 
 TOP = Path(__file__).resolve().parent.parent
-CHECKED = re.compile(r"^(\d+\.\d) checked (\S+), \d+ of \d+$", re.M)
-SPENT = re.compile(r"^spent (\d+\.\d)$", re.M)
-DEAREST = 20
+DONE = {
+    "proved": re.compile(r"^(\d+\.\d) rt: (mvt_\w+) (?:proved|is kept).*$", re.M),
+    "tests": re.compile(r"^(\d+\.\d) .*\b(mvt_\w+)\b.*\btests? passed.*$", re.M),
+    "refused": re.compile(r"^(\d+\.\d) .*\b(mvt_\w+)\b.*\brefused.*$", re.M),
+}
 
 
-def crates(root: Path) -> dict[str, list[str]]:
-    """Each crate, after those that it uses."""
-    lines = (line.split(":") for line in (root / "crates.txt").read_text().splitlines() if ":" in line)
-    uses = {head.split()[0]: rest.split() for head, rest in lines}
-    order: dict[str, list[str]] = {}
-
-    def add(crate: str) -> None:
-        if crate not in order and crate in uses:
-            for below in uses[crate]:
-                add(below)
-            order[crate] = uses[crate]
-
-    for crate in uses:
-        add(crate)
-    return order
-
-
-def spent_by_children() -> float:
-    used = resource.getrusage(resource.RUSAGE_CHILDREN)
-    return used.ru_utime + used.ru_stime
-
-
-def said(file: Path, folder: Path, *words: str) -> str:
-    """What a command said, each line behind the seconds since it began, and last what it took of processors."""
-    if file.exists():
-        return file.read_text()
-    began, before, lines = time.monotonic(), spent_by_children(), []
-    with subprocess.Popen(words, cwd=folder, stdout=subprocess.PIPE, stderr=subprocess.STDOUT, text=True) as process:
+def said(root: Path, words: list[str]) -> str:
+    """What `rt ci` said, each line behind the seconds since it began, and last what it took of processors."""
+    began, lines = time.monotonic(), []
+    with subprocess.Popen(["rt", "ci", *words], cwd=root, stdout=subprocess.PIPE, stderr=subprocess.STDOUT, text=True) as process:
         for line in process.stdout or ():
             lines.append(f"{time.monotonic() - began:.1f} {line}")
-    if process.returncode:
-        sys.exit(f"{' '.join(words)} in {folder.name}: status {process.returncode}\n{''.join(lines[-5:])}")
-    text = "".join(lines) + f"spent {spent_by_children() - before:.1f}\n"
-    file.write_text(text)
-    return text
-
-
-def minutes(text: str) -> float:
-    return float(SPENT.findall(text)[-1]) / 60
-
-
-def functions(text: str) -> list[tuple[float, str]]:
-    """The functions of a check with one job, each with the seconds between the line before and its own."""
-    found = [(float(at), name) for at, name in CHECKED.findall(text)]
-    return [(at - before, name) for (before, _), (at, name) in zip(found, found[1:])]
-
-
-def has_tests(crate: Path) -> bool:
-    return any("#[test]" in path.read_text() for path in crate.glob("src/**/*.rt"))
-
-
-def measure(root: Path, crate: str) -> tuple[list[float], list[tuple[float, str]]]:
-    kept, folder = root / "said", root / "crates" / crate
-    proofs = said(kept / f"{crate}.proofs", folder, "rt", "check", "--jobs", "1")
-    taken, dear = [minutes(proofs), 0.0, 0.0], functions(proofs)
-    if has_tests(folder):
-        tests = said(kept / f"{crate}.tests", folder, "rt", "check", "--jobs", "1", "--test")
-        taken[1], dear = minutes(tests), dear + functions(tests)
-    if list(folder.glob("must-fail/*.edit")):
-        taken[2] = minutes(said(kept / f"{crate}.edits", root, "rt", "must-fail", crate))
-    return taken, dear
+            sys.stderr.write(line)
+    used = resource.getrusage(resource.RUSAGE_CHILDREN)
+    lines.append(f"{time.monotonic() - began:.1f} status {process.returncode}, {used.ru_utime + used.ru_stime:.0f} of processors\n")
+    return "".join(lines)
 
 
 def main() -> None:
@@ -90,17 +40,13 @@ def main() -> None:
     root = Path(sys.argv[1]).resolve()
     if not root.exists():
         subprocess.run(["git", "clone", "-q", TOP, root], check=True)
-        (root / "said").mkdir()
-    print("| Crate | Proofs | Tests | Wrong bodies |\n|---|---|---|---|")
-    sums, dear = [0.0, 0.0, 0.0], []
-    for crate in sys.argv[2:] or crates(root):
-        taken, functions_of_it = measure(root, crate)
-        sums = [one + more for one, more in zip(sums, taken)]
-        dear += functions_of_it
-        print(f"| {crate} | {' | '.join(f'{it:.1f}' for it in taken)} |", flush=True)
-    print(f"| together | {' | '.join(f'{it:.1f}' for it in sums)} |\n\n| Function | Seconds |\n|---|---|")
-    for seconds, name in sorted(set(dear), reverse=True)[:DEAREST]:
-        print(f"| {name} | {seconds:.0f} |")
+    text = said(root, sys.argv[2:])
+    (root / "said").write_text(text, encoding="utf-8")
+    last = {what: {crate: float(at) / 60 for at, crate in form.findall(text)} for what, form in DONE.items()}
+    print("| Crate | Proved | Tests | Wrong bodies |\n|---|---|---|---|")
+    for crate in sorted(last["proved"], key=last["proved"].__getitem__):
+        print(f"| {crate} | " + " | ".join(f"{last[what][crate]:.0f}" if crate in last[what] else "" for what in DONE) + " |")
+    print("\n" + text.splitlines()[-1])
 
 
 main()

@@ -7,7 +7,8 @@ between --lay and --told FILE, where FILE has what it said.
 
 Chosen are those whose own text is new since all of their crate were refused last, then those of files that changed
 since, then others, up to --most. In a crate without edits of its own it is none, or two at least, since the proof of
-the crate comes first. --all chooses all. Where all of a crate were tried and refused, tests/wrong_bodies.passed gets a
+the crate comes first. A body that is refused only because a proof names what it took away is named: it is to change a value
+instead. --all chooses all. Where all of a crate were tried and refused, tests/wrong_bodies.passed gets a
 line: the crate, the commit and the count.
 """
 
@@ -21,6 +22,7 @@ from pathlib import Path
 PREFIX = "laid-"
 UNTRIED = "untried"
 VERDICT = re.compile(r"rt: must-fail (\S+)\.edit: (refused|NOT REFUSED|BAD EDIT|NOT TRIED)")
+BY_A_NAME = re.compile(r"rt: must-fail (\S+)\.edit: refused, as it must be \(only because a proof file names")
 
 
 def git(root: Path, *words: str) -> str:
@@ -133,6 +135,8 @@ def judged(root: Path, lines: list[str]) -> bool:
     failed = {name: verdict for name, verdict in verdicts.items() if verdict != "refused"}
     for name, verdict in failed.items():
         print(f"FAILED: {name.replace(PREFIX, '')}: {verdict}")
+    for found in filter(None, map(BY_A_NAME.match, lines)):
+        print(f"says little, since only a name in a proof is gone: {found[1].replace(PREFIX, '')}")
     print(f"edits refused: {len(verdicts) - len(failed)} of {len(verdicts)}")
     refused = [name for name, verdict in verdicts.items() if verdict == "refused"]
     add_notes(root, refused)

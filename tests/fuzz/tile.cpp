@@ -88,6 +88,11 @@ extern "C" int LLVMFuzzerTestOneInput(const std::uint8_t *data, std::size_t size
     require(refused_by([&] { (void)mvt::svg(input); }) == fault, "svg has another verdict");
     require(refused_by([&] { (void)mvt::read(input); }) == fault, "read has another verdict");
     require(refused_by([&] { in_pieces(input); }) == fault, "a decoder has another verdict");
+    const auto unmended = refused_by([&] {
+        const mvt::mended told = mvt::mend(input);
+        mvt::judge(told.bytes());
+    });
+    require(!unmended || unmended == fault, "mend has another verdict, or makes no tile");
     if (fault) return 0;
     const mvt::tile tile = mvt::read(input);
     const mvt::bytes canonical = mvt::rewrite(input);

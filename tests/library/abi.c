@@ -51,6 +51,10 @@ static_assert(MVT_INT == 4, "MVT_INT");
 static_assert(MVT_UINT == 5, "MVT_UINT");
 static_assert(MVT_SINT == 6, "MVT_SINT");
 static_assert(MVT_BOOL == 7, "MVT_BOOL");
+static_assert(MVT_CHANGE_TURNED_RING == 1, "MVT_CHANGE_TURNED_RING");
+static_assert(MVT_CHANGE_REPEATED_POINT == 2, "MVT_CHANGE_REPEATED_POINT");
+static_assert(MVT_CHANGE_PART_LEFT_OUT == 3, "MVT_CHANGE_PART_LEFT_OUT");
+static_assert(MVT_CHANGE_FEATURE_LEFT_OUT == 4, "MVT_CHANGE_FEATURE_LEFT_OUT");
 static_assert(MVT_NOTE_NO_LAYERS == 1, "MVT_NOTE_NO_LAYERS");
 static_assert(MVT_NOTE_FOREIGN == 2, "MVT_NOTE_FOREIGN");
 static_assert(MVT_NOTE_NO_FEATURES == 3, "MVT_NOTE_NO_FEATURES");
@@ -177,6 +181,18 @@ static_assert(offsetof(mvt_tile, integer_count) == 120, "mvt_tile: integer_count
 static_assert(offsetof(mvt_tile, texts) == 128, "mvt_tile: texts");
 static_assert(offsetof(mvt_tile, text_len) == 136, "mvt_tile: text_len");
 
+static_assert(sizeof(mvt_change_row) == 40, "mvt_change_row");
+static_assert(offsetof(mvt_change_row, kind) == 0, "mvt_change_row: kind");
+static_assert(offsetof(mvt_change_row, layer) == 8, "mvt_change_row: layer");
+static_assert(offsetof(mvt_change_row, feature) == 16, "mvt_change_row: feature");
+static_assert(offsetof(mvt_change_row, part) == 24, "mvt_change_row: part");
+static_assert(offsetof(mvt_change_row, count) == 32, "mvt_change_row: count");
+
+static_assert(sizeof(mvt_mended) == 32, "mvt_mended");
+static_assert(offsetof(mvt_mended, bytes) == 0, "mvt_mended: bytes");
+static_assert(offsetof(mvt_mended, changes) == 16, "mvt_mended: changes");
+static_assert(offsetof(mvt_mended, change_count) == 24, "mvt_mended: change_count");
+
 static_assert(sizeof(mvt_note_row) == 40, "mvt_note_row");
 static_assert(offsetof(mvt_note_row, kind) == 0, "mvt_note_row: kind");
 static_assert(offsetof(mvt_note_row, version) == 4, "mvt_note_row: version");
@@ -279,6 +295,7 @@ static_assert(offsetof(mvt_surroundings, fields) == 224, "mvt_surroundings: fiel
 static_assert(offsetof(mvt_surroundings, field_count) == 232, "mvt_surroundings: field_count");
 
 mvt_status (*const call_mvt_rewrite)(const uint8_t *, size_t, mvt_bytes *, mvt_fault *) = mvt_rewrite;
+mvt_status (*const call_mvt_mend)(const uint8_t *, size_t, mvt_mended *, mvt_fault *) = mvt_mend;
 mvt_status (*const call_mvt_extract)(const uint8_t *, size_t, const mvt_bytes *, size_t, mvt_bytes *, mvt_fault *, size_t *) = mvt_extract;
 mvt_status (*const call_mvt_json)(const uint8_t *, size_t, mvt_bytes *, mvt_fault *) = mvt_json;
 mvt_status (*const call_mvt_svg)(const uint8_t *, size_t, mvt_bytes *, mvt_fault *) = mvt_svg;
@@ -335,6 +352,7 @@ void (*const call_mvt_bytes_free)(mvt_bytes *) = mvt_bytes_free;
 void (*const call_mvt_tile_free)(mvt_tile *) = mvt_tile_free;
 void (*const call_mvt_summary_free)(mvt_summary *) = mvt_summary_free;
 void (*const call_mvt_findings_free)(mvt_findings *) = mvt_findings_free;
+void (*const call_mvt_mended_free)(mvt_mended *) = mvt_mended_free;
 void (*const call_mvt_surroundings_free)(mvt_surroundings *) = mvt_surroundings_free;
 
 int main(void) { return 0; }

@@ -1,16 +1,11 @@
-/* Calls mvt_around on each file that is named, with its fault and with made-up ones: what is told lies in the bytes, in
- * order, and agrees with mvt_locate. Prints nothing where all is well. */
-#include "mvt.h"
+/* mvt_around on each case, with its fault and with made-up ones: what is told lies in the bytes, in order, and agrees with
+ * mvt_locate. */
+#define _DEFAULT_SOURCE
+#include "tests.h"
 
-#include <stdio.h>
-#include <stdlib.h>
-#include <string.h>
-
-static void require(int holds, const char *what) {
-    if (holds) return;
-    fprintf(stderr, "broken: %s\n", what);
-    exit(1);
-}
+#include <sys/resource.h>
+#include <sys/wait.h>
+#include <unistd.h>
 
 static void within(const mvt_bounds *of, uint64_t start, uint64_t end) {
     require(start <= of->start && of->start <= of->body && of->body <= of->end && of->end <= end, "the bounds of a field");
@@ -93,23 +88,17 @@ static void look(const uint8_t *bytes, size_t len, const mvt_fault *fault) {
     mvt_surroundings_free(&around);
 }
 
-static void look_at(const char *path) {
-    FILE *file = fopen(path, "rb");
-    require(file != NULL && fseek(file, 0, SEEK_END) == 0, path);
-    const size_t len = (size_t)ftell(file);
-    rewind(file);
-    uint8_t *bytes = malloc(len + 1);
-    require(fread(bytes, 1, len, file) == len, path);
-    fclose(file);
+static void look_into(const told_case *of) {
     mvt_fault fault;
-    if (mvt_judge(bytes, len, &fault) == MVT_REFUSED) look(bytes, len, &fault);
-    if (len < 100000)
-        for (uint32_t cause = 0; cause < 28; ++cause) {
-            const mvt_fault made_up = {(int64_t)(cause % 3) - 1, (int64_t)(cause % 4) - 1, len == 0 ? 0 : cause * 7 % len, cause, {NULL, 0}};
-            look(bytes, len, &made_up);
-        }
-    free(bytes);
+    if (mvt_judge(of->tile, of->len, &fault) == MVT_REFUSED) look(of->tile, of->len, &fault);
+    for (uint32_t cause = 0; of->len < 100000 && cause < 28; ++cause) {
+        const uint64_t at = of->len == 0 ? 0 : cause * 7 % of->len;
+        const mvt_fault made_up = {(int64_t)(cause % 3) - 1, (int64_t)(cause % 4) - 1, at, cause, {NULL, 0}};
+        look(of->tile, of->len, &made_up);
+    }
 }
+
+static void each(void) { each_case(look_into); }
 
 /* A polygon whose first ring goes the wrong way round. */
 static void example(void) {
@@ -124,11 +113,61 @@ static void example(void) {
     mvt_surroundings_free(&around);
 }
 
-int main(int argc, char **argv) {
+/* The most bytes of this process that were in memory. */
+static size_t peak(void) {
+    struct rusage used;
+    getrusage(RUSAGE_SELF, &used);
+    return (size_t)used.ru_maxrss * 1024;
+}
+
+/* A layer of fields of two bytes each, or with a feature of one field that has bytes alone, takes at most so many times its
+ * bytes, as mvt.h says. A field of that many bytes has a tag and a length of five bytes. */
+static void bounded(uint8_t field, uint32_t cause) {
+    enum { BYTES = 1 << 22 };
+    const uint8_t heads[][6] = {{0x1a, 0x8c, 0x80, 0x80, 0x82, 0}, {0x12, 0x86, 0x80, 0x80, 0x82, 0}, {field, 0x80, 0x80, 0x80, 0x82, 0}};
+    uint8_t *bytes = calloc(BYTES + sizeof heads, 1);
+    memcpy(bytes, heads, sizeof heads);
+    const int is_in_feature = cause != MVT_CAUSE_TRUNCATED;
+    for (size_t i = 6; !is_in_feature && i + 1 < BYTES + sizeof heads; i += 2) bytes[i] = field, bytes[i + 1] = 0;
+    const mvt_fault fault = {0, is_in_feature ? 0 : -1, is_in_feature ? 1 : 6, cause, {NULL, 0}};
+    mvt_surroundings around;
+    const size_t before = peak();
+    require(mvt_around(bytes, BYTES + sizeof heads, &fault, &around) == MVT_OK, "a call with memory");
+    require((is_in_feature ? around.tag_count + around.geometry_count : around.field_count) >= BYTES / 2, "all of it");
+    const double times = (double)(peak() - before) / BYTES;
+    if (getenv("TELL") || times > 76) fprintf(stderr, "field %u takes %.1f times its bytes\n", field >> 3, times);
+    require(times <= 76, "the memory that mvt.h says");
+    mvt_surroundings_free(&around);
+    free(bytes);
+}
+
+/* Each in a process of its own, whose peak is then its own too. */
+static void take_memory(void) {
+    static const struct {
+        uint8_t field;
+        uint32_t cause;
+    } ROWS[] = {{0x12, MVT_CAUSE_KEY_INDEX}, {0x1a, MVT_CAUSE_TRUNCATED}, {0x22, MVT_CAUSE_COMMAND}};
+    for (size_t i = 0; i < sizeof ROWS / sizeof *ROWS; ++i) {
+        int status = 1;
+        if (fork() == 0) {
+            bounded(ROWS[i].field, ROWS[i].cause);
+            exit(0);
+        }
+        require(wait(&status) > 0 && status == 0, "what it takes of memory");
+    }
+}
+
+static void look_nowhere(void) {
     const mvt_fault nowhere = {5, 5, UINT64_MAX, 99, {NULL, 0}};
     look(NULL, 0, &nowhere);
     mvt_surroundings_free(NULL);
-    example();
-    for (int i = 1; i < argc; ++i) look_at(argv[i]);
-    return 0;
 }
+
+static const named_test TESTS[] = {
+    {"no bytes", look_nowhere},
+    {"a polygon", example},
+    {"each case", each},
+    {"the memory that mvt.h says", take_memory},
+};
+
+RUN_TESTS(TESTS)

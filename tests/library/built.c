@@ -1,16 +1,7 @@
-/* The builder, and the words for a status and a fault: built KINDS.mvt. Prints nothing where all is well. */
-#include "mvt.h"
+/* The builder, and the words for a status and a fault. */
+#include "tests.h"
 
 #include <inttypes.h>
-#include <stdio.h>
-#include <stdlib.h>
-#include <string.h>
-
-static void require(int holds, const char *what) {
-    if (holds) return;
-    fprintf(stderr, "broken: %s\n", what);
-    exit(1);
-}
 
 static int is_text(const mvt_tile *t, mvt_span at, const char *text) {
     return at.len == strlen(text) && memcmp(t->texts + at.start, text, at.len) == 0;
@@ -34,17 +25,13 @@ static void build_point(void) {
     require(mvt_builder_finish(&builder, &out, &fault) == MVT_OK && out.len == 0, "a builder that begins anew is empty");
 }
 
-/* The file is what each language's builder makes of values of all kinds. */
-static void build_kinds(const char *path) {
+/* The case `kinds` is what each language's builder makes of values of all kinds. */
+static void build_kinds_of(const told_case *of) {
     static const char *const keys[] = {"s", "f", "d", "i", "p", "u", "n", "z", "b"};
     const mvt_any values[] = {mvt_any_text(mvt_text("x")), mvt_any_float(2.5f), mvt_any_double(3.5),
                               mvt_any_int(-5),             mvt_any_int(5),      mvt_any_uint(5),
                               mvt_any_sint(-5),            mvt_any_sint(5),     mvt_any_bool(1)};
-    uint8_t wanted[256];
-    FILE *file = fopen(path, "rb");
-    require(file != NULL, "the file of values of all kinds");
-    const size_t len = fread(wanted, 1, sizeof wanted, file);
-    fclose(file);
+    if (strcmp(of->name, "kinds") != 0) return;
     mvt_builder builder = {0};
     mvt_bytes out = {0};
     mvt_rows_fault fault;
@@ -53,9 +40,11 @@ static void build_kinds(const char *path) {
     mvt_builder_point(&builder, 25, 17);
     for (int i = 0; i < 9; ++i) mvt_builder_tag(&builder, mvt_text(keys[i]), values[i]);
     require(mvt_builder_finish(&builder, &out, &fault) == MVT_OK, "values of all kinds are built");
-    require(out.len == len && memcmp(out.data, wanted, len) == 0, "the bytes of values of all kinds");
+    require_bytes(out.data, out.len, of->tile, of->len, "the bytes of values of all kinds");
     mvt_bytes_free(&out);
 }
+
+static void build_kinds(void) { each_case(build_kinds_of); }
 
 /* Two layers with a feature of each kind and a value of each kind, read again. */
 static void build_all(void) {
@@ -493,21 +482,21 @@ static void explain(void) {
     require(strcmp(mvt_version(), MVT_VERSION) == 0, "the version of the library");
 }
 
-int main(int argc, char **argv) {
-    require(argc == 2, "built KINDS.mvt: the tile of tests/library/kinds.hex");
-    build_point();
-    build_kinds(argv[1]);
-    build_all();
-    build_whole();
-    build_many();
-    build_clashes();
-    build_out_of_turn();
-    build_no_tile();
-    judge_rows();
-    judge_rules();
-    judge_in_order();
-    write_what_nothing_names();
-    write_overlaps();
-    explain();
-    return 0;
-}
+static const named_test TESTS[] = {
+    {"a point is built", build_point},
+    {"values of each kind", build_kinds},
+    {"features of each kind", build_all},
+    {"whole features", build_whole},
+    {"keys and values that come again", build_many},
+    {"texts that clash", build_clashes},
+    {"calls out of turn", build_out_of_turn},
+    {"rows that are no tile", build_no_tile},
+    {"the first fault of rows", judge_rows},
+    {"the rule that no commands draw", judge_rules},
+    {"rows that are broken twice", judge_in_order},
+    {"what no tag names", write_what_nothing_names},
+    {"spans that overlap", write_overlaps},
+    {"a fault in words", explain},
+};
+
+RUN_TESTS(TESTS)

@@ -1,31 +1,6 @@
-/* Calls the library on each file that is named, and looks at all that it hands out. Prints a line for each file:
- * the statuses of mvt_rewrite, mvt_json, mvt_read and mvt_extract, and a sum over the rows. The rows are written again,
- * and so are copies of them in which a few numbers are changed at random. */
-#include "mvt.h"
-
-#include <stdio.h>
-#include <stdlib.h>
-#include <string.h>
-
-static void require(int holds, const char *what) {
-    if (holds) return;
-    fprintf(stderr, "broken: %s\n", what);
-    exit(1);
-}
-
-static uint8_t *read_file(const char *path, size_t *len) {
-    FILE *file = fopen(path, "rb");
-    require(file != NULL, path);
-    size_t room = 1 << 16, used = 0, got;
-    uint8_t *bytes = malloc(room);
-    while ((got = fread(bytes + used, 1, room - used, file)) != 0) {
-        used += got;
-        if (used == room) bytes = realloc(bytes, room *= 2);
-    }
-    fclose(file);
-    *len = used;
-    return bytes;
-}
+/* The calls on each case: they hand out what the program says. The rows are written again, and so are copies of them in which
+ * a few numbers are changed at random. */
+#include "tests.h"
 
 static int lies(mvt_span span, size_t count) {
     return span.start <= count && span.len <= count - span.start;
@@ -203,14 +178,6 @@ static unsigned write_changed(const mvt_tile *rows, unsigned times) {
     return accepted;
 }
 
-static uint64_t sum_of(mvt_bytes *bytes) {
-    uint64_t sum = bytes->len;
-    for (size_t i = 0; i < bytes->len; ++i) sum += bytes->data[i];
-    mvt_bytes_free(bytes);
-    require(bytes->data == NULL && bytes->len == 0, "what was given back is still there");
-    return sum;
-}
-
 /* A tile in pieces is the tile as a whole, or has its fault. */
 static void decode(const uint8_t *bytes, size_t len, uint32_t wanted, const mvt_tile *rows, const mvt_fault *first) {
     mvt_decoder decoder = {0};
@@ -266,55 +233,111 @@ static void read_within(const uint8_t *bytes, size_t len, const mvt_tile *rows) 
     mvt_decoder_free(&decoder);
 }
 
-static void call(const char *path) {
-    size_t len;
-    uint8_t *tile = read_file(path, &len);
-    const uint8_t *bytes = len == 0 ? NULL : tile;
+typedef uint32_t making(const uint8_t *, size_t, mvt_bytes *, mvt_fault *);
+
+/* What a call makes is what the case has of this key, with a line feed behind it or without; or it has the case's fault. */
+static void make(const told_case *of, making *call, const char *key, int adds_line) {
     mvt_bytes out = {0};
     mvt_fault fault = {.layer = -7};
-    mvt_tile rows = {0};
-    uint64_t sum = 0;
+    size_t len;
+    const uint32_t status = call(of->tile, of->len, &out, &fault);
+    require(status == (case_has(of, "fault") ? MVT_REFUSED : MVT_OK), key);
+    require((status == MVT_REFUSED) == (fault.layer != -7), "a fault is told exactly where the tile is refused");
+    require(status == MVT_OK || (out.data == NULL && out.len == 0), "an output that isn't due is touched");
+    if (status != MVT_OK) return;
+    const int is_text = strcmp(key, "canonical") != 0;
+    void *wanted = is_text ? (void *)case_text(of, key, &len) : case_bytes(of, key, &len);
+    require_bytes(out.data, out.len, wanted, len - (size_t)adds_line, key);
+    free(wanted);
+    mvt_bytes_free(&out);
+    require(out.data == NULL && out.len == 0, "what was given back is still there");
+}
 
-    const uint32_t rewritten = mvt_rewrite(bytes, len, &out, &fault);
-    require((rewritten == MVT_REFUSED) == (fault.layer != -7), "a fault is told exactly where the tile is refused");
-    if (rewritten == MVT_OK) sum += sum_of(&out);
-    const uint32_t shown = mvt_json(bytes, len, &out, &fault);
-    if (shown == MVT_OK) sum += sum_of(&out);
-    require(mvt_judge(bytes, len, &fault) == shown, "a tile is accepted where it is shown");
-    require(mvt_report(bytes, len, &out, &fault) == shown, "a tile is reported on where it is shown");
-    if (shown == MVT_OK) sum += sum_of(&out);
-    require(mvt_lint(bytes, len, &out, &fault) == shown, "a tile is linted where it is shown");
-    if (shown == MVT_OK) sum += sum_of(&out);
-    const uint32_t read = mvt_read(bytes, len, UINT64_MAX, &rows, &fault);
-    decode(bytes, len, read, &rows, &fault);
+/* The line of a fault, its place and its sentence are the program's. */
+static void refuse(const told_case *of) {
+    mvt_fault fault = {0};
+    mvt_place place;
+    size_t len;
+    char line[200], index[2][24] = {"-", "-"};
+    require(mvt_judge(of->tile, of->len, &fault) == MVT_REFUSED, "a tile that is refused");
+    if (fault.layer >= 0) sprintf(index[0], "%lld", (long long)fault.layer);
+    if (fault.feature >= 0) sprintf(index[1], "%lld", (long long)fault.feature);
+    int made = sprintf(line, "layer %s feature %s at %llu: %u %.*s", index[0], index[1], (unsigned long long)fault.at, fault.cause,
+                       (int)fault.name.len, (const char *)fault.name.data);
+    const char *wanted = case_says(of, "fault", &len);
+    require_bytes(line, (size_t)made, wanted, len, "the line of a fault");
+    mvt_locate(of->tile, of->len, &fault, &place);
+    made = sprintf(line, "%llu %llu", (unsigned long long)place.start, (unsigned long long)place.end);
+    wanted = case_says(of, "place", &len);
+    require_bytes(line, (size_t)made, wanted, len, "the place of a fault");
+    const char *sentence = mvt_explain(of->tile, of->len, &fault);
+    wanted = case_says(of, "sentence", &len);
+    require_bytes(sentence, strlen(sentence), wanted, len, "the sentence of a fault");
+}
+
+/* Each layer that the case has by name, extracted alone. */
+static void extract_each(const told_case *of) {
+    size_t len;
+    for (const char *line = of->lines; (line = case_line(line, "extract", &len)) != NULL; line += len) {
+        const size_t of_name = (size_t)(strchr(line, ' ') - line);
+        const mvt_bytes name = {(const uint8_t *)line, of_name};
+        uint8_t *wanted = bytes_of_digits(line + of_name + 1, len - of_name - 1, 0);
+        mvt_bytes out = {0};
+        mvt_fault fault;
+        require(mvt_extract(of->tile, of->len, &name, 1, &out, &fault, NULL) == MVT_OK, "a layer that is there");
+        require_bytes(out.data, out.len, wanted, (len - of_name - 1) / 2, "a layer alone");
+        mvt_bytes_free(&out);
+        free(wanted);
+    }
+}
+
+/* Names that no layer has, and one that isn't UTF-8. */
+static void extract_wrong(const uint8_t *bytes, size_t len, uint32_t judged) {
     const mvt_bytes names[] = {{(const uint8_t *)"water", 5}, {(const uint8_t *)"\xff", 1}};
+    mvt_bytes out = {0};
+    mvt_fault fault = {0};
     const uint32_t extracted = mvt_extract(bytes, len, names, 1, &out, &fault, NULL);
-    if (extracted == MVT_OK) sum += sum_of(&out);
-    require(mvt_extract(bytes, len, NULL, 0, &out, &fault, NULL) == shown && out.len == 0, "no layers are named");
+    mvt_bytes_free(&out);
+    require(mvt_extract(bytes, len, NULL, 0, &out, &fault, NULL) == judged && out.len == 0, "no layers are named");
     mvt_bytes_free(&out);
     require(mvt_extract(bytes, len, names, 2, &out, &fault, NULL) == MVT_BAD_NAME, "a name that isn't UTF-8");
     const mvt_bytes missed[] = {names[0], {(const uint8_t *)"no such layer", 13}};
     size_t missing = 7;
     const uint32_t without = mvt_extract(bytes, len, missed, 2, &out, &fault, &missing);
-    require(without == (shown == MVT_OK ? MVT_NO_LAYER : shown), "a layer that isn't there");
-    require(missing == (shown != MVT_OK ? 7 : extracted == MVT_NO_LAYER ? 0 : 1), "the first name that no layer has");
+    require(without == (judged == MVT_OK ? MVT_NO_LAYER : judged), "a layer that isn't there");
+    require(missing == (judged != MVT_OK ? 7 : extracted == MVT_NO_LAYER ? 0 : 1), "the first name that no layer has");
     require(mvt_extract(bytes, len, missed, 2, &out, &fault, NULL) == without, "a missing layer that nobody asks for");
     require(out.data == NULL && out.len == 0, "an output that isn't due is touched");
+}
+
+static void call(const told_case *of) {
+    const uint8_t *bytes = of->len == 0 ? NULL : of->tile;
+    mvt_fault fault = {0};
+    mvt_tile rows = {0};
+    const uint32_t judged = mvt_judge(bytes, of->len, &fault);
+    make(of, mvt_rewrite, "canonical", 0);
+    make(of, mvt_json, "show", 1);
+    make(of, mvt_svg, "draw", 1);
+    make(of, mvt_report, "check", 0);
+    make(of, mvt_lint, "lint", 0);
+    if (judged == MVT_REFUSED) refuse(of);
+    else extract_each(of);
+    extract_wrong(bytes, of->len, judged);
+    const uint32_t read = mvt_read(bytes, of->len, UINT64_MAX, &rows, &fault);
+    require(read == judged, "a tile is read where it is accepted");
+    decode(bytes, of->len, read, &rows, &fault);
     if (read == MVT_OK) {
-        sum += walk(&rows);
-        read_within(bytes, len, &rows);
+        volatile uint64_t sum = walk(&rows);
+        (void)sum;
+        read_within(bytes, of->len, &rows);
         require(write_rows(&rows) == MVT_OK, "rows that were read are a tile");
         write_changed(&rows, 4);
         mvt_tile_free(&rows);
     }
     require(rows.layers == NULL && rows.text_len == 0, "rows that aren't due are touched");
-    printf("%s %u %u %u %u %llu\n", path, rewritten, shown, read, extracted, (unsigned long long)sum);
-    if (rewritten == MVT_REFUSED) {
-        printf("%lld %lld %llu %u %.*s\n", (long long)fault.layer, (long long)fault.feature, (unsigned long long)fault.at,
-               fault.cause, (int)fault.name.len, (const char *)fault.name.data);
-    }
-    free(tile);
 }
+
+static void each(void) { each_case(call); }
 
 /* Layer `a` with the point (25, 17), made by hand, as the bytes that are known of it. */
 static void write_point(void) {
@@ -352,13 +375,18 @@ static void take_nothing(void) {
     mvt_bytes_free(&out);
 }
 
-int main(int argc, char **argv) {
-    take_nothing();
+static void free_nothing(void) {
     mvt_bytes_free(NULL);
     mvt_tile_free(NULL);
     mvt_decoder_free(NULL);
     mvt_builder_free(NULL);
-    write_point();
-    for (int i = 1; i < argc; ++i) call(argv[i]);
-    return 0;
 }
+
+static const named_test TESTS[] = {
+    {"no bytes", take_nothing},
+    {"nothing to give back", free_nothing},
+    {"a point made by hand", write_point},
+    {"each case", each},
+};
+
+RUN_TESTS(TESTS)

@@ -1,10 +1,9 @@
-"""The examples in docs/LIBRARY.md, as programs: documented.py FOLDER
+"""The examples in docs/LIBRARY.md, as programs.
 
 Those that list read a tile from standard input; those that make one write it, or print what is in it; those that bound
 their memory make JSON of one from standard input.
 """
 
-import sys
 from pathlib import Path
 
 DOCUMENT = (Path(__file__).resolve().parents[2] / "docs" / "LIBRARY.md").read_text()
@@ -53,7 +52,6 @@ def example(heading, below):
     return "\n".join(line[4:] for line in lines[:end])
 
 
-if __name__ == "__main__":
-    for name, (heading, below, main) in PROGRAMS.items():
-        text = example(heading, below).replace("town.mvt", "/dev/stdin")
-        Path(sys.argv[1], name).write_text(text + "\n" + main + "\n")
+def program_of(name):
+    heading, below, main = PROGRAMS[name]
+    return example(heading, below).replace("town.mvt", "/dev/stdin") + "\n" + main + "\n"

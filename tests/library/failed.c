@@ -1,42 +1,26 @@
 /* A decoder that failed behind the points of a feature keeps no memory for them: it has no more than one that failed
  * before the first of them, whatever it failed for, while the feature has no row. It is linked with tests/allocator. */
 #include "allocator.h"
-#include "mvt.h"
-
-#include <stdio.h>
-#include <stdlib.h>
-#include <string.h>
+#include "tests.h"
 
 enum { STEPS = 50000, LEN = 28 + 2 * STEPS, SLACK = 1024 };
 
 static unsigned long refused; /* the allocation that is refused, from 1 */
 
-static void require(int holds, const char *what) {
-    if (holds) return;
-    fprintf(stderr, "broken: %s, allocation %lu refused\n", what, refused);
-    exit(1);
-}
-
-static uint8_t *put(uint8_t *at, uint32_t number) {
-    for (; number >= 128; number >>= 7) *at++ = (uint8_t)(number | 128);
-    *at++ = (uint8_t)number;
-    return at;
-}
-
 /* Layer `a` with a line of so many steps of one byte each way; answers where the steps begin. */
 static size_t line(uint8_t *tile, size_t *len) {
     uint8_t integers[16], feature[16], *end = integers, *front = feature;
     memcpy(end, "\x09\x00\x00", 3);
-    end = put(end + 3, (STEPS << 3) | 2);
+    end = put_varint(end + 3, (STEPS << 3) | 2);
     const uint32_t drawn = (uint32_t)(end - integers) + 2 * STEPS;
     memcpy(front, "\x18\x02\x22", 3);
-    front = put(front + 3, drawn);
+    front = put_varint(front + 3, drawn);
     const uint32_t whole = (uint32_t)(front - feature) + drawn;
-    uint8_t size[8], *after = put(size, whole), *at = tile;
+    uint8_t size[8], *after = put_varint(size, whole), *at = tile;
     *at++ = 0x1A;
-    at = put(at, 6 + (uint32_t)(after - size) + whole);
+    at = put_varint(at, 6 + (uint32_t)(after - size) + whole);
     memcpy(at, "\x78\x02\x0A\x01\x61\x12", 6);
-    at = put(at + 6, whole);
+    at = put_varint(at + 6, whole);
     memcpy(at, feature, (size_t)(front - feature));
     at += front - feature;
     memcpy(at, integers, (size_t)(end - integers));

@@ -23,10 +23,10 @@ words = [sys.argv[1], "-listen", "127.0.0.1:0", f"http://127.0.0.1:{upstream.ser
 with subprocess.Popen(words, stdout=subprocess.PIPE, stderr=subprocess.DEVNULL, text=True) as run:
     try:
         address = run.stdout.readline().strip()
-        with urllib.request.urlopen(f"{address}/gdal.mvt", timeout=20) as answer:
+        with urllib.request.urlopen(f"{address}/gdal.mvt", timeout=60) as answer:
             assert answer.read() == (TILES / "gdal.mvt").read_bytes()
         try:
-            urllib.request.urlopen(f"{address}/broken/20-ZeroSegment.mvt", timeout=20)
+            urllib.request.urlopen(f"{address}/broken/20-ZeroSegment.mvt", timeout=60)
         except urllib.error.HTTPError as answer:
             assert answer.code == 502 and b"20 ZeroSegment" in answer.read()
         else:

@@ -1,16 +1,6 @@
 /* What each handle of mvt.h holds is given back, whenever it is freed: handles decoder|builder|tile|bytes. It is for valgrind,
  * which finds what is lost. With `forgetting` as a second word the last one isn't freed, which valgrind has to find. */
-#include "mvt.h"
-
-#include <stdio.h>
-#include <stdlib.h>
-#include <string.h>
-
-static void require(int holds, const char *what) {
-    if (holds) return;
-    fprintf(stderr, "broken: %s\n", what);
-    exit(1);
-}
+#include "tests.h"
 
 /* The layer `a` with the point (25, 17). */
 static const uint8_t TILE[] = {0x1A, 0x11, 0x78, 0x02, 0x0A, 0x01, 0x61, 0x12, 0x07, 0x18,

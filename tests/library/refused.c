@@ -1,17 +1,13 @@
-/* Each call on each tile that is named, once for each of its allocations, that one refused: it has to say that it is
- * out of memory, to touch nothing, and to leave no block behind. It is linked with tests/allocator. */
+/* Each call on each case, once for each of its allocations, that one refused: it has to say that it is out of memory, to touch
+ * nothing, and to leave no block behind. It is linked with tests/allocator. */
 #include "allocator.h"
-#include "mvt.h"
-
-#include <stdio.h>
-#include <stdlib.h>
-#include <string.h>
+#include "tests.h"
 
 static unsigned long refused; /* the allocation that is refused, from 1 */
 
-static void require(int holds, const char *what, const char *call) {
+static void require_of(int holds, const char *what, const char *call) {
     if (holds) return;
-    fprintf(stderr, "broken: %s: %s, allocation %lu refused\n", call, what, refused);
+    fprintf(stderr, "broken: %s: %s: %s, allocation %lu refused\n", tests_at, call, what, refused);
     exit(1);
 }
 
@@ -28,6 +24,7 @@ typedef union {
     mvt_summary summary;
     mvt_findings findings;
     mvt_surroundings surroundings;
+    mvt_mended mended;
 } output;
 
 typedef struct {
@@ -37,6 +34,7 @@ typedef struct {
 } task;
 
 static uint32_t rewrite(const uint8_t *b, size_t n, output *o, mvt_fault *f) { return mvt_rewrite(b, n, &o->bytes, f); }
+static uint32_t mend(const uint8_t *b, size_t n, output *o, mvt_fault *f) { return mvt_mend(b, n, &o->mended, f); }
 static uint32_t json(const uint8_t *b, size_t n, output *o, mvt_fault *f) { return mvt_json(b, n, &o->bytes, f); }
 static uint32_t svg(const uint8_t *b, size_t n, output *o, mvt_fault *f) { return mvt_svg(b, n, &o->bytes, f); }
 static uint32_t lint(const uint8_t *b, size_t n, output *o, mvt_fault *f) { return mvt_lint(b, n, &o->bytes, f); }
@@ -101,6 +99,7 @@ static void free_bytes(output *o) { mvt_bytes_free(&o->bytes); }
 static void free_tile(output *o) { mvt_tile_free(&o->tile); }
 static void free_summary(output *o) { mvt_summary_free(&o->summary); }
 static void free_findings(output *o) { mvt_findings_free(&o->findings); }
+static void free_mended(output *o) { mvt_mended_free(&o->mended); }
 static void free_surroundings(output *o) { mvt_surroundings_free(&o->surroundings); }
 
 static const task TASKS[] = {
@@ -109,7 +108,7 @@ static const task TASKS[] = {
     {"mvt_read_layer", layer, free_tile},
     {"mvt_report", report, free_bytes},   {"mvt_lint", lint, free_bytes},
     {"mvt_survey", survey, free_summary}, {"mvt_lint_rows", findings, free_findings},
-    {"mvt_around", around, free_surroundings},
+    {"mvt_around", around, free_surroundings}, {"mvt_mend", mend, free_mended},
     {"mvt_judge", judge, free_bytes},
     {"mvt_write", written, free_bytes},      {"mvt_builder_finish", built, free_bytes},
 };
@@ -125,14 +124,14 @@ static int refuse(const task *of, const uint8_t *bytes, size_t len, unsigned lon
     begin(number);
     const uint32_t status = of->call(bytes, len, &out, &fault);
     const int came = allocator_refuse_none();
-    require((status == MVT_NO_MEMORY) == came, "the wrong status", of->name);
+    require_of((status == MVT_NO_MEMORY) == came, "the wrong status", of->name);
     if (status == MVT_OK) {
         of->give_back(&out);
     } else {
-        require(memcmp(&out, &untouched, sizeof out) == 0, "an output is touched", of->name);
+        require_of(memcmp(&out, &untouched, sizeof out) == 0, "an output is touched", of->name);
     }
-    if (status != MVT_REFUSED) require(memcmp(&fault, &told_nothing, sizeof fault) == 0, "a fault is told", of->name);
-    require(allocator_blocks() == 0, "a block is left", of->name);
+    if (status != MVT_REFUSED) require_of(memcmp(&fault, &told_nothing, sizeof fault) == 0, "a fault is told", of->name);
+    require_of(allocator_blocks() == 0, "a block is left", of->name);
     return came;
 }
 
@@ -147,7 +146,7 @@ static int are_bytes_alone(const mvt_tile *tile, const uint8_t *payload, size_t 
 
 /* A layer of version 3 with 16 values, whose version stands neither first nor last: where a value finds no memory, the
  * rows are the same. */
-static unsigned long refuse_values(void) {
+static void refuse_values(void) {
     uint8_t bytes[74] = {0x1a, 72, 0x0a, 1, 'a'};
     size_t len = 5;
     for (uint8_t i = 1; i <= 16; ++i) {
@@ -163,30 +162,25 @@ static unsigned long refuse_values(void) {
         begin(number);
         const uint32_t status = mvt_read(bytes, sizeof bytes, UINT64_MAX, &tile, &fault);
         const int came = allocator_refuse_none();
-        require(status == MVT_OK || (came && status == MVT_NO_MEMORY), "the wrong status", "mvt_read of version 3");
+        require_of(status == MVT_OK || (came && status == MVT_NO_MEMORY), "the wrong status", "mvt_read of version 3");
         if (status == MVT_OK) {
-            require(are_bytes_alone(&tile, bytes + 2, sizeof bytes - 2), "other rows", "mvt_read of version 3");
+            require_of(are_bytes_alone(&tile, bytes + 2, sizeof bytes - 2), "other rows", "mvt_read of version 3");
             mvt_tile_free(&tile);
         }
-        require(allocator_blocks() == 0, "a block is left", "mvt_read of version 3");
-        if (!came) return number;
+        require_of(allocator_blocks() == 0, "a block is left", "mvt_read of version 3");
+        if (!came) return;
     }
 }
 
-int main(int argc, char **argv) {
-    static uint8_t bytes[1 << 20];
-    unsigned long runs = refuse_values();
-    for (int i = 1; i < argc; ++i) {
-        FILE *file = fopen(argv[i], "rb");
-        if (file == NULL) return 2;
-        const size_t len = fread(bytes, 1, sizeof bytes, file);
-        fclose(file);
-        for (size_t t = 0; t < sizeof TASKS / sizeof *TASKS; ++t) {
-            unsigned long number = 1;
-            while (refuse(&TASKS[t], bytes, len, number)) ++number;
-            runs += number;
-        }
+static void refuse_each(const told_case *of) {
+    for (size_t t = 0; of->len < 1000000 && t < sizeof TASKS / sizeof *TASKS; ++t) {
+        unsigned long number = 1;
+        while (refuse(&TASKS[t], of->tile, of->len, number)) ++number;
     }
-    printf("%lu runs\n", runs);
-    return 0;
 }
+
+static void each(void) { each_case(refuse_each); }
+
+static const named_test TESTS[] = {{"a layer of another version", refuse_values}, {"each case", each}};
+
+RUN_TESTS(TESTS)

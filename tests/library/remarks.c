@@ -1,17 +1,8 @@
-/* Calls mvt_survey and mvt_lint_rows on each file that is named: their rows say what the lines of mvt_report and mvt_lint
- * say, and where a tile is refused they tell mvt_judge's fault and touch nothing else. Prints nothing where all is well. */
-#include "mvt.h"
+/* mvt_survey and mvt_lint_rows on each case: their rows say what the lines of `mvt check` and `mvt lint` say, and where a tile
+ * is refused they tell mvt_judge's fault and touch nothing else. */
+#include "tests.h"
 
 #include <inttypes.h>
-#include <stdio.h>
-#include <stdlib.h>
-#include <string.h>
-
-static void require(int holds, const char *what) {
-    if (holds) return;
-    fprintf(stderr, "broken: %s\n", what);
-    exit(1);
-}
 
 /* Lines that are made of rows. */
 typedef struct {
@@ -56,28 +47,27 @@ static void add_finding(lines *to, const mvt_finding_row *row) {
     ADD(to, "\n");
 }
 
-static void compare(lines *made, mvt_bytes *told, const char *what) {
-    require(made->len == told->len && (told->len == 0 || memcmp(made->text, told->data, told->len) == 0), what);
+static void compare(lines *made, const told_case *of, const char *key) {
+    size_t len;
+    char *told = case_text(of, key, &len);
+    require_bytes(made->text, made->len, told, len, key);
     free(made->text);
-    mvt_bytes_free(told);
+    free(told);
 }
 
-static void accepted(const uint8_t *bytes, size_t len) {
+static void accepted(const told_case *of) {
     mvt_summary summary;
     mvt_findings findings;
-    mvt_bytes told;
     mvt_fault fault;
     lines notes = {0}, found = {0};
-    require(mvt_survey(bytes, len, &summary, &fault) == MVT_OK && summary.is_canonical <= 1, "a survey");
+    require(mvt_survey(of->tile, of->len, &summary, &fault) == MVT_OK && summary.is_canonical <= 1, "a survey");
     ADD(&notes, "ok layers %" PRIu64 " features %" PRIu64 " canonical %s\n", summary.layers, summary.features,
         summary.is_canonical ? "yes" : "no");
     for (size_t i = 0; i < summary.note_count; ++i) add_note(&notes, &summary.notes[i]);
-    require(mvt_report(bytes, len, &told, &fault) == MVT_OK, "a report");
-    compare(&notes, &told, "rows of notes and their lines");
-    require(mvt_lint_rows(bytes, len, &findings, &fault) == MVT_OK, "rows of findings");
+    compare(&notes, of, "check");
+    require(mvt_lint_rows(of->tile, of->len, &findings, &fault) == MVT_OK, "rows of findings");
     for (size_t i = 0; i < findings.count; ++i) add_finding(&found, &findings.rows[i]);
-    require(mvt_lint(bytes, len, &told, &fault) == MVT_OK, "lines of findings");
-    compare(&found, &told, "rows of findings and their lines");
+    compare(&found, of, "lint");
     mvt_summary_free(&summary);
     mvt_findings_free(&findings);
     require(summary.notes == NULL && summary.layers == 0 && findings.rows == NULL, "what was given back is still there");
@@ -105,19 +95,13 @@ static void refused(const uint8_t *bytes, size_t len, const mvt_fault *first) {
     require((strncmp(mvt_explain(bytes, len, first), "This isn't a tile, but looks like ", 34) == 0) == (kind != 0), "its sentence");
 }
 
-static void look(const char *path) {
-    FILE *file = fopen(path, "rb");
-    require(file != NULL && fseek(file, 0, SEEK_END) == 0, path);
-    const size_t len = (size_t)ftell(file);
-    rewind(file);
-    uint8_t *bytes = malloc(len + 1);
-    require(fread(bytes, 1, len, file) == len, path);
-    fclose(file);
+static void look(const told_case *of) {
     mvt_fault fault;
-    if (mvt_judge(bytes, len, &fault) == MVT_OK) accepted(bytes, len);
-    else refused(bytes, len, &fault);
-    free(bytes);
+    if (mvt_judge(of->tile, of->len, &fault) == MVT_OK) accepted(of);
+    else refused(of->tile, of->len, &fault);
 }
+
+static void each(void) { each_case(look); }
 
 /* What has a number has a text, and what has none has another. */
 static void texts(void) {
@@ -175,11 +159,16 @@ static void looks(void) {
     require(mvt_looks_like(NULL, 0) == 0, "no bytes look like nothing");
 }
 
-int main(int argc, char **argv) {
-    texts();
-    looks();
+static void free_nothing(void) {
     mvt_summary_free(NULL);
     mvt_findings_free(NULL);
-    for (int i = 1; i < argc; ++i) look(argv[i]);
-    return 0;
 }
+
+static const named_test TESTS[] = {
+    {"a text for each number", texts},
+    {"what bytes look like", looks},
+    {"nothing to give back", free_nothing},
+    {"each case", each},
+};
+
+RUN_TESTS(TESTS)

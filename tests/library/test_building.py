@@ -50,7 +50,7 @@ class Building(unittest.TestCase):
 
     def test_each_kind_of_value(self):
         """Each language's builder makes the same bytes of values of all kinds, and what was read is what is built."""
-        lines = Path(__file__).with_name("kinds.hex").read_text().splitlines()
+        lines = (Path(__file__).resolve().parents[2] / "fixtures/tiles/kinds.hex").read_text().splitlines()
         wanted = bytes.fromhex("".join(line.partition("#")[0] for line in lines))
         values = {"s": "x", "f": mvt.Float(2.5), "d": 3.5, "i": mvt.Int(-5), "p": mvt.Int(5), "u": 5, "n": -5,
                   "z": mvt.Sint(5), "b": True}

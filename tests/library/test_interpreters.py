@@ -1,5 +1,6 @@
 """Two interpreters of one process have the module at a time, and one goes on when the other has ended."""
 
+import sys
 import unittest
 from concurrent.futures import ThreadPoolExecutor
 from pathlib import Path
@@ -18,7 +19,10 @@ BROKEN = (TILES / "broken" / "16-RepeatedKey.mvt").read_bytes()
 
 # What an interpreter has for itself.
 BEGIN = """
+import sys
 import threading
+
+sys.path[:] = {path!r}
 import mvt
 
 tile, canonical, broken = {tile!r}, {canonical!r}, {broken!r}
@@ -71,7 +75,7 @@ class Two(unittest.TestCase):
     def begun(self):
         """An interpreter that has the module."""
         made = interpreters.create(isolated=False)
-        told = {"tile": TILE, "canonical": CANONICAL, "broken": BROKEN, "rows": id(mvt.Rows), "refused": id(mvt.Refused)}
+        told = {"path": sys.path, "tile": TILE, "canonical": CANONICAL, "broken": BROKEN, "rows": id(mvt.Rows), "refused": id(mvt.Refused)}
         interpreters.run_string(made, BEGIN.format(**told))
         return made
 

@@ -9,7 +9,7 @@ import unittest
 from pathlib import Path
 
 import mvt
-from mvt._mvt import lint_rows, lookalike, looked_at, survey_rows
+from mvt._mvt import json_lent, lint_rows, lookalike, looked_at, mend_rows, survey_rows, svg_lent
 
 TILES = Path(__file__).resolve().parents[2] / "fixtures" / "tiles"
 TILE = (TILES / "gdal.mvt").read_bytes()
@@ -71,6 +71,11 @@ GOOD = (
     lambda: looked_at(FOUND),
     lambda: looked_at(BROKEN),
     lambda: lookalike(bytearray(b"GIF89a")),
+    lambda: mend_rows(TILE),
+    lambda: mend_rows(BROKEN),
+    lambda: memoryview(json_lent(TILE)).nbytes,
+    lambda: memoryview(svg_lent(TILE)).nbytes,
+    lambda: [memoryview(each).nbytes for each in mvt.rows(TILE)._lent()],
     lambda: mvt.rewrite(TILE),
     lambda: mvt.to_json(TILE),
     lambda: mvt.to_svg(TILE),
@@ -82,6 +87,8 @@ BAD = (
     lambda: mvt.read(BROKEN),
     lambda: mvt.judge(BROKEN),
     lambda: mvt.read("tile"),
+    lambda: mend_rows(b"\0"),
+    lambda: json_lent(BROKEN),
     lambda: lookalike("tile"),
     lambda: mvt.read(TILE, most=10),
     lambda: mvt.extract(TILE, ["water", "nowhere"]),

@@ -1,6 +1,5 @@
-"""The Python module on the example tiles: what it gives is what other programs made of them, and what `mvt` says.
-
-The program is $MVT. Numbers at their ends are spelled here, as the specification spells them.
+"""What is Python of the module: its objects, errors, buffers and arrays, and what it says of tiles made here; test_cases.py has
+what the program says of tiles. The program is $MVT. Numbers at their ends are spelled here, as the specification spells them.
 """
 
 import copy
@@ -8,7 +7,6 @@ import dataclasses
 import gc
 import gzip
 import io
-import json
 import os
 import pickle
 import re
@@ -26,6 +24,7 @@ from xml.etree import ElementTree
 import mvt
 from mvt._mvt import cause_text, finding_text, note_text
 from mvt._numbers import FINDINGS, NOTES
+from shown import shown_value
 
 sys.path.insert(0, str(Path(__file__).resolve().parents[1] / "program"))
 
@@ -43,46 +42,7 @@ def tile(name):
 
 
 def broken(name):
-    compressed = TILES / "broken" / (name + ".mvt.gz")
-    return gzip.decompress(compressed.read_bytes()) if compressed.exists() else tile("broken/%s.mvt" % name)
-
-
-def shown_value(value):
-    """A value in the form of `mvt show`."""
-    if isinstance(value, bool):
-        return {"bool": value}
-    if isinstance(value, str):
-        return {"string": value}
-    if isinstance(value, mvt.Float):
-        return {"float_bits": value.bits}
-    if isinstance(value, float):
-        return {"double_bits": struct.unpack("<Q", struct.pack("<d", value))[0]}
-    return {"uint" if isinstance(value, mvt.Uint) else "sint" if isinstance(value, mvt.Sint) else "int": value}
-
-
-def shown_geometry(kind, drawn):
-    if kind == "polygons":
-        return {kind: [{"outer": rings[0], "rest": rings[1:]} for rings in drawn]}
-    return {kind: drawn}
-
-
-def shown_layer(layer):
-    if isinstance(layer, mvt.Foreign):
-        return {"foreign": {"length": len(layer.bytes), "version": layer.version}}
-    features = [
-        {
-            "attributes": [[key, shown_value(value)] for key, value in feature.attributes.items()],
-            "geometry": shown_geometry(feature.kind, feature.geometry),
-            "id": feature.id,
-        }
-        for feature in layer.features
-    ]
-    return {"extent": layer.extent, "features": features, "name": layer.name}
-
-
-def shown(of):
-    """A tile in the form of `mvt show`, with lists in the place of tuples."""
-    return json.loads(json.dumps({"layers": [shown_layer(layer) for layer in of.layers]}))
+    return tile(f"broken/{name}.mvt")
 
 
 def told(row):
@@ -97,18 +57,6 @@ def zigzags(*numbers):
 
 
 class WholeTiles(unittest.TestCase):
-    def test_reads_what_the_json_says(self):
-        for name in WHOLE:
-            self.assertEqual(shown(mvt.read(tile(name + ".mvt"))), json.loads((TILES / (name + ".json")).read_text()))
-
-    def test_reads_what_the_program_shows(self):
-        tiles = sorted(TILES.glob("*.mvt"))
-        self.assertGreaterEqual(len(tiles), 5)
-        for path in tiles:
-            told = subprocess.run([os.environ["MVT"], "show"], input=path.read_bytes(), capture_output=True, check=True)
-            self.assertEqual(shown(mvt.read(path.read_bytes())), json.loads(told.stdout), path.name)
-            self.assertEqual(mvt.to_json(path.read_bytes()) + "\n", told.stdout.decode())
-
     def test_reports_what_the_program_reports(self):
         triangle = varint(9) + zigzags(0, 0) + varint(26) + zigzags(4, 0, 0, 4, -4, -4) + varint(15)
         flat = varint(9) + zigzags(0, 0) + varint(18) + zigzags(4, 4, 2, 2) + varint(15)
@@ -121,7 +69,7 @@ class WholeTiles(unittest.TestCase):
             field(3, field(15, 2) + field(1, b"c")),
         ]
         made = [b"", b"".join(whole)]
-        for of in [path.read_bytes() for path in sorted(TILES.glob("*.mvt"))] + made:
+        for of in made:
             told = subprocess.run([os.environ["MVT"], "check"], input=of, capture_output=True, check=True).stdout.decode()
             self.assertEqual((mvt.report(of), str(mvt.report(of))), (told, told))
             survey = mvt.survey(of)
@@ -179,8 +127,6 @@ class WholeTiles(unittest.TestCase):
         ])
         self.assertEqual("; ".join(map(str, mvt.lint(found))), "FarPoint layer 0 feature 0 position 20000 -7; LargeId layer 0 feature 1; "
             "LargeNumber layer 0 feature 1 attribute 0; NoGeometry layer 0 feature 2; UnknownGeometry layer 0 feature 3; ZeroExtent layer 1")
-        for of in [path.read_bytes() for path in sorted(TILES.glob("*.mvt"))]:
-            self.assertEqual(mvt.lint(of), [])
 
     def test_notes_and_findings_mean_what_the_document_says(self):
         document = (TILES.parent.parent / "docs" / "PROGRAM.md").read_text()
@@ -202,14 +148,6 @@ class WholeTiles(unittest.TestCase):
         self.assertEqual([text(99) for text in (cause_text, note_text, finding_text)],
                          ["no cause of this library", "no note of this library", "no finding of this library"])
         self.assertEqual(mvt.LIMIT, 2**26)
-
-    def test_rewrites(self):
-        for name in WHOLE:
-            self.assertEqual(mvt.rewrite(tile(name + ".mvt")), tile(name + ".canonical.mvt"))
-
-    def test_shows(self):
-        for name in WHOLE:
-            self.assertEqual(mvt.to_json(tile(name + ".mvt")) + "\n", (TILES / (name + ".json")).read_text())
 
     def test_draws(self):
         for name in WHOLE:
@@ -289,17 +227,6 @@ class WholeTiles(unittest.TestCase):
                 with self.assertRaisesRegex(mvt.MvtError, "finished"):
                     decoder.feed(b"")
         mvt.Decoder()
-
-    def test_refuses_pieces_as_the_whole(self):
-        for path in sorted((TILES / "broken").glob("*.mvt")):
-            with self.assertRaises(mvt.Refused) as whole:
-                mvt.judge(path.read_bytes())
-            decoder = mvt.Decoder()
-            with self.assertRaises(mvt.Refused) as told:
-                for byte in path.read_bytes():
-                    decoder.feed(bytes([byte]))
-                decoder.finish()
-            self.assertEqual(told.exception.line, whole.exception.line)
 
     def test_takes_what_holds_bytes(self):
         whole = tile("gdal.mvt")
@@ -412,18 +339,6 @@ class Ends(unittest.TestCase):
 
 
 class BrokenTiles(unittest.TestCase):
-    def test_each_fault(self):
-        lines = (TILES / "broken" / "tiles.tsv").read_text().splitlines()
-        self.assertGreater(len(lines), 20)
-        for line in lines:
-            name, _, told = line.split("\t")
-            for call in CALLS:
-                with self.assertRaises(mvt.Refused) as caught:
-                    call(broken(name))
-                fault = caught.exception
-                self.assertEqual(fault.line, told)
-                self.assertEqual(str(fault), f"{told}: {fault.explanation}")
-
     def test_tells_layer_feature_place_and_cause(self):
         with self.assertRaises(mvt.Refused) as caught:
             mvt.read(broken("20-ZeroSegment"))
@@ -433,7 +348,6 @@ class BrokenTiles(unittest.TestCase):
         with self.assertRaises(mvt.Refused) as caught:
             mvt.read(b"\x1b")
         self.assertEqual((caught.exception.layer, caught.exception.feature), (None, None))
-
 
     def test_tells_it_in_words(self):
         with self.assertRaises(mvt.Refused) as caught:

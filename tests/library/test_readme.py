@@ -5,6 +5,7 @@ import gzip
 import http.server
 import os
 import re
+import shutil
 import socket
 import subprocess
 import tempfile
@@ -48,6 +49,7 @@ class Packing(Tiles):
     packs = True
 
 
+@unittest.skipUnless(shutil.which("curl"), "curl isn't there")
 class Line(unittest.TestCase):
     def run_it(self, port, path="/14/8192/8191.mvt"):
         words = line().replace("127.0.0.1:8080/14/8192/8191.mvt", f"127.0.0.1:{port}{path}")

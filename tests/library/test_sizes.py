@@ -9,7 +9,7 @@ import unittest
 from pathlib import Path
 
 import mvt
-from test_module import shown
+from shown import shown
 
 sys.path.insert(0, str(Path(__file__).resolve().parents[1] / "program"))
 

@@ -1,6 +1,7 @@
 """The module's calls let Python's lock go while the library works, and threads may share what they make."""
 
 import gc
+import sys
 import threading
 import time
 import unittest
@@ -21,28 +22,40 @@ def large():
 
 
 class Lock(unittest.TestCase):
-    def ticks(self, call):
-        """How often another thread ran within the call, but for its first and last thousandth of a second."""
-        ran, ends = [], threading.Event()
+    """No thread is made to give way for an hour: another one runs where the lock is let go, and nowhere else."""
 
-        def tick():
+    def setUp(self):
+        self.addCleanup(sys.setswitchinterval, sys.getswitchinterval())
+        sys.setswitchinterval(3600)
+
+    def lets_go(self, call):
+        """Whether another thread runs within the call, which a busy machine may need some tries for."""
+        within, seen, ends = threading.Event(), threading.Event(), threading.Event()
+
+        def look():
             while not ends.is_set():
-                ran.append(time.monotonic())
+                if within.is_set():
+                    seen.set()
                 time.sleep(0.0002)
 
-        thread = threading.Thread(target=tick)
+        thread = threading.Thread(target=look)
         thread.start()
-        begun = time.monotonic()
-        call()
-        done = time.monotonic()
+        for _ in range(1000):
+            within.set()
+            call()
+            within.clear()
+            if seen.is_set():
+                break
         ends.set()
         thread.join()
-        return sum(begun + 0.001 < at < done - 0.001 for at in ran)
+        return seen.is_set()
+
+    def test_is_held_by_others(self):
+        self.assertFalse(self.lets_go(lambda: None))
 
     def test_is_let_go(self):
         tile = mvt.write(large())
         rows = mvt.rows(tile)
-        decoder = mvt.Decoder()
         for call in (
             lambda: mvt.judge(tile),
             lambda: mvt.rows(tile),
@@ -50,9 +63,9 @@ class Lock(unittest.TestCase):
             lambda: mvt.report(tile),
             lambda: mvt.extract(tile, ["a"]),
             lambda: mvt.write(rows),
-            lambda: decoder.feed(tile),
+            lambda: mvt.Decoder().feed(tile),
         ):
-            self.assertGreater(self.ticks(call), 0)
+            self.assertTrue(self.lets_go(call))
 
 
 class Collector(unittest.TestCase):

@@ -1,14 +1,12 @@
-// The wrapper for C++ as the program: wrapped COMMAND [NAME..] < tile. Its output, its line on standard error and its
-// status are those of `mvt COMMAND`. The commands `hold`, `look`, `write`, `share`, `take`, `lend`, `explain`,
-// `build`, `kinds` and `mix` test the owners, the views, what is written of rows, threads, what bytes and names are taken,
-// what is told of a fault, the builder, its values of each kind, and what belongs to another tile or to none; they print
-// nothing.
+// What is C++ of the wrapper: wrapped TEST < tile. A test has a name, such as `hold` for the owners or `take` for what bytes and
+// names are taken, and prints nothing where all is well. cases.cpp has what the calls answer.
 #include "mvt.hpp"
 
 #include <algorithm>
 #include <iostream>
 #include <iterator>
 #include <limits>
+#include <map>
 #include <string>
 #include <thread>
 #include <vector>
@@ -386,6 +384,26 @@ void remark(mvt::byte_span input) {
     }
 }
 
+/// What is mended: an accepted tile isn't, and the layer `a` with a line of one point twice is left without a feature.
+void mend(mvt::byte_span input) {
+    const mvt::mended same = mvt::mend(input);
+    require(same.changes().empty() && std::ranges::equal(same.bytes(), mvt::rewrite(input)), "an accepted tile is changed");
+    const std::string broken("\x1a\x11\x78\x02\x0a\x01\x61\x12\x0a\x18\x02\x22\x06\x09\x04\x04\x0a\x00\x00", 19);
+    mvt::mended first = mvt::mend(broken);
+    const mvt::mended told = std::move(first);
+    require(first.changes().empty() && first.bytes().empty() && told.changes().size() == 1, "one change, of one owner");
+    const mvt_change_row &change = told.changes()[0];
+    require(change.kind == MVT_CHANGE_FEATURE_LEFT_OUT && change.layer == 0 && change.feature == 0 && change.part == 0, "a change");
+    mvt::builder wanted;
+    require(std::ranges::equal(told.bytes(), wanted.layer("a").finish()), "the mended tile");
+    try {
+        static_cast<void>(mvt::mend(std::string_view("\0", 1)));
+        require(false, "a broken tile is mended");
+    } catch (const mvt::refused &why) {
+        require(why.cause() == MVT_CAUSE_FIELD_NUMBER, "its cause");
+    }
+}
+
 /// What is round a fault: the layer `a` with a line that goes nowhere.
 void surround() {
     const std::string tile("\x1a\x12\x78\x02\x0a\x01\x61\x12\x0b\x18\x02\x22\x07\x09\x04\x04\x0a\x00\x00\x00", 20);
@@ -421,58 +439,37 @@ void share(mvt::byte_span input) {
     require(wrong == std::vector<int>(4), "a thread got something else");
 }
 
-void put(const mvt::bytes &made) { std::cout << made.text(); }
+using test = void (*)(mvt::byte_span);
 
-void call(const std::string &command, const std::vector<std::string_view> &names, mvt::byte_span input) {
-    if (command == "rewrite") return put(mvt::rewrite(input));
-    if (command == "extract") return put(mvt::extract(input, names));
-    if (command == "hold") return hold(input);
-    if (command == "look") return look(input);
-    if (command == "share") return share(input);
-    if (command == "take") return take(input), bound(input), pick(input);
-    if (command == "lend") return lend();
-    if (command == "mix") return mix(input);
-    if (command == "explain") return explain();
-    if (command == "build") return build(), range(), equal(), undrawn();
-    if (command == "kinds") return kinds(input);
-    if (command == "pieces") return pieces(input);
-    if (command == "write") return write(input);
-    if (command == "remark") return remark(input);
-    if (command == "surround") return surround();
-    if (command == "check") return put(mvt::report(input));
-    if (command == "lint") return put(mvt::lint(input));
-    put(command == "show" ? mvt::json(input) : mvt::svg(input));
-    std::cout << '\n';
-}
+const std::map<std::string_view, test> TESTS{
+    {"hold", hold},
+    {"look", look},
+    {"write", write},
+    {"share", share},
+    {"pieces", pieces},
+    {"take", take},
+    {"bound", bound},
+    {"pick", pick},
+    {"lend", [](mvt::byte_span) { lend(); }},
+    {"explain", [](mvt::byte_span) { explain(); }},
+    {"build", [](mvt::byte_span) { build(); }},
+    {"range", [](mvt::byte_span) { range(); }},
+    {"equal", [](mvt::byte_span) { equal(); }},
+    {"undrawn", [](mvt::byte_span) { undrawn(); }},
+    {"mix", mix},
+    {"remark", remark},
+    {"mend", mend},
+    {"surround", [](mvt::byte_span) { surround(); }},
+    {"kinds", kinds},
+};
 
 } // namespace
 
-int main(int argc, char **argv) try {
+int main(int count, char **words) try {
     const std::string input = whole_input();
-    try {
-        call(argv[1], {argv + 2, argv + argc}, mvt::bytes_of(input));
-    } catch (const mvt::refused &why) {
-        const auto shown = [](auto index) { return index ? std::to_string(*index) : std::string("-"); };
-        std::cerr << "layer " << shown(why.layer()) << " feature " << shown(why.feature()) << " at " << why.at() << ": "
-                  << why.cause() << ' ' << why.name() << '\n';
-        require(why.line() == "layer " + shown(why.layer()) + " feature " + shown(why.feature()) + " at " +
-                                  std::to_string(why.at()) + ": " + std::to_string(why.cause()) + " " +
-                                  std::string(why.name()),
-                "the line of a fault");
-        require(why.what() == why.line() + ": " + std::string(why.sentence()), "the text of a fault");
-        // A decoder keeps no bytes that it could look at.
-        const bool looks = why.sentence().starts_with("This isn't a tile, but looks like ");
-        if (std::string_view(argv[1]) != "pieces")
-            require(mvt::looks_like(mvt::bytes_of(input)).has_value() == looks, "what the bytes look like");
-        return 1;
-    }
-    return std::cout.flush() ? 0 : 3;
-} catch (const mvt::no_layer &why) {
-    std::cerr << why.what() << '\n';
-    return 1;
-} catch (const mvt::bad_name &) {
-    std::cerr << "bad name\n";
-    return 5;
+    require(count == 2 && TESTS.contains(words[1]), "a test of that name");
+    TESTS.at(words[1])(mvt::bytes_of(input));
+    return 0;
 } catch (const std::exception &why) {
     std::cerr << "broken: " << why.what() << '\n';
     return 9;

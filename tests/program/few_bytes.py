@@ -241,9 +241,13 @@ def runs():
         yield ["check"], tile, (0, report, "")
         yield ["show"], tile, (0, text, "")
         yield ["rewrite"], tile, (0, octets(canonical), "")
+        yield ["mend"], tile, (0, octets(canonical), "")
     for tile, line in REFUSED:
         for words in (["check"], ["show"], ["draw"], ["rewrite"], ["extract", "a"]):
             yield words, tile, (1, "", line + "\n")
+        # These two rules are mended.
+        if not line.endswith(("ZeroSegment", "FirstRing")):
+            yield ["mend"], tile, (1, "", line + "\n")
     for tile, lines, line in FIELDS:
         yield ["fields"], tile, (1 if line else 0, lines, line)
     yield ["draw"], ONE_POINT, (0, DRAWN, "")

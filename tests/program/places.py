@@ -1,9 +1,8 @@
 """Where faults stand, and whether what `mvt explain` says of them is right.
 
 The fault is taken from its line, and this module looks for the place by itself, in a way that depends on the cause; it
-shares no code with the program. The rows of bytes are read back and compared with the tile, and the sentences with
-fixtures/tiles/broken/explained.txt. test_fault_places.py asks the program, tests/library/test_places.py and
-tests/tools/page/test_places.py ask the library and the page."""
+shares no code with the program. The rows of bytes are read back and compared with the tile, and the sentences with those of
+the broken tiles in fixtures/tiles/cases.txt. test_fault_places.py asks the program."""
 
 import bz2
 import gzip
@@ -259,12 +258,10 @@ def brotli_like(tile):
 
 
 def documented():
-    """The sentence of each cause in explained.txt, by its number: that of the worked tiles which break the rule."""
+    """The sentence of each cause, by its number: that of the worked tiles which break the rule."""
     found = {}
-    text = (TOP / "fixtures" / "tiles" / "broken" / "explained.txt").read_text()
-    for cause, block in re.findall(r"^\$ .*broken/(\d+)-(?!WireType-gzip).*\n((?:.+\n)+)", text, re.MULTILINE):
-        lines = block.splitlines()
-        sentence = next(line for line in lines if not re.match("layer |bytes? |before byte ", line))
+    text = (TOP / "fixtures" / "tiles" / "cases.txt").read_text()
+    for cause, sentence in re.findall(r"^case (\d+)-(?!WireType-gzip)(?:.+\n)*?sentence (.*)$", text, re.MULTILINE):
         assert found.setdefault(int(cause), sentence) == sentence
     return found
 
@@ -457,13 +454,3 @@ def in_many_pieces(count):
     """So many tiles whose tags and geometry are spelled in pieces; the same ones each time."""
     chance = random.Random(1)
     return [b"".join(piecewise(chance) for _ in range(chance.randint(1, 2))) for _ in range(count)]
-
-
-def tiles(names):
-    """The tiles of these files, inputs that are no tiles, and tiles in pieces, each by a name."""
-    for name in names:
-        content = Path(name).read_bytes()
-        yield name, gzip.decompress(content) if name.endswith(".gz") else content
-    yield from NO_TILES.items()
-    for number, tile in enumerate(in_many_pieces(1000)):
-        yield f"in pieces {number}", tile

@@ -28,6 +28,7 @@ def runs():
         ("show", '{"layers":[]}\n'),
         ("draw", PICTURE + "</svg>\n"),
         ("rewrite", ""),
+        ("mend", ""),
     ]:
         yield [command], WHOLE, 0, 0, (0, written, "")
         yield [command], WHOLE, 0, 1, (1, "", TOO_LARGE)

@@ -8,7 +8,7 @@ import pytest
 
 TOP = Path(__file__).resolve().parents[2]
 POINT = (TOP / "fixtures" / "tiles" / "point.mvt").read_bytes()
-COMMANDS = ["fields", "show", "check", "explain", "rewrite", "extract a"]
+COMMANDS = ["fields", "show", "check", "explain", "rewrite", "mend", "extract a"]
 
 
 @pytest.fixture

@@ -72,7 +72,7 @@ def adds_nothing(program, words, stdin=b""):
 @pytest.mark.parametrize("content, hint", LOOKS.items(), ids=[hint.split(":")[0] for hint in LOOKS.values()])
 def test_what_an_input_looks_like(mvt, tmp_path, content, hint):
     """For each command over standard input, and over files."""
-    for words in (["check"], ["explain"], ["lint"], ["show"], ["draw"], ["fields"], ["rewrite"], ["extract", "a"], []):
+    for words in (["check"], ["explain"], ["lint"], ["show"], ["draw"], ["fields"], ["rewrite"], ["mend"], ["extract", "a"], []):
         adds(mvt, words, content, hint.format("FILE"))
     path = tmp_path / "file"
     path.write_bytes(content)

@@ -15,7 +15,7 @@ import os
 import subprocess
 import sys
 
-TIMEOUT_SECONDS = 60
+TIMEOUT_SECONDS = 120
 MOST_ALLOCATIONS = 100_000
 
 

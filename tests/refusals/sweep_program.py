@@ -21,7 +21,7 @@ sys.path.insert(0, str(Path(__file__).resolve().parents[1] / "program"))
 from wire import field, packed, zigzag  # noqa: E402
 
 FEATURES = 305
-TIMEOUT_SECONDS = 60
+TIMEOUT_SECONDS = 120
 MOST_ALLOCATIONS = 100_000
 
 
@@ -135,6 +135,7 @@ def main():
         (["explain", file], os.fsencode(file) + b": " + report),
         ([], report),
         (["rewrite"], canonical),
+        (["mend"], canonical),
         (["extract", "places"], canonical),
     ]
     point = bytes.fromhex("1A1178020A0161120718012203093222288020")

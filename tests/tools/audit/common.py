@@ -1,4 +1,4 @@
-"""What the tests of mvt-audit share: stores made of tiles, runs of the command, and what `mvt check` ($MVT) says."""
+"""What the tests of mvt-audit share: stores made of tiles, runs of the command, and what `mvt check` says."""
 
 import gzip
 import json
@@ -16,7 +16,8 @@ from pathlib import Path
 
 TOP = Path(__file__).resolve().parents[3]
 TILES = TOP / "fixtures" / "tiles"
-sys.path += map(str, (TOP / "evidence" / "viewers", TOP / "tests" / "program"))
+sys.path += map(str, (TOP / "evidence" / "viewers", TOP / "tests" / "program", TILES))
+import cases  # noqa: E402
 from evidence import tiles as evidence_tiles  # noqa: E402
 from linted import FOUND  # noqa: E402
 
@@ -24,7 +25,7 @@ from linted import FOUND  # noqa: E402
 EVIDENCE = dict(evidence_tiles())
 # In an installed package or wheel the command itself is named.
 AUDIT = [os.environ["MVT_AUDIT"]] if "MVT_AUDIT" in os.environ else [sys.executable, "-m", "mvt_tools.audit"]
-FAULT = re.compile(r"(.*): layer (\S+) feature (\S+) at (\d+): (\d+) (\w+)")
+FAULT = re.compile(r"layer (\S+) feature (\S+) at (\d+): (\d+) (\w+)\n")
 
 
 def example_tiles():
@@ -34,25 +35,15 @@ def example_tiles():
     return tiles
 
 
-def check(tiles):
-    """What `mvt check` says of each tile: the verdict, the fault's columns, and the notes."""
+def said_by_program():
+    """What `mvt check` says of each example tile, by name: the verdict, the fault's columns, and the notes."""
     said = {}
-    with tempfile.TemporaryDirectory() as room:
-        paths = {}
-        for number, (name, tile) in enumerate(tiles.items()):
-            path = Path(room, f"{number}.mvt")
-            path.write_bytes(tile)
-            paths[str(path)] = name
-        run = subprocess.run([os.environ["MVT"], "check", *paths], capture_output=True, text=True)
-    for line in run.stdout.splitlines():
-        path, _, told = line.partition(": ")
-        if told.startswith("note "):
-            said[paths[path]][2].append(told[5:])
-        else:
-            said[paths[path]] = ("accepted", (None,) * 5, [])
-    for told in filter(None, map(FAULT.fullmatch, run.stderr.splitlines())):
-        layer, feature = (None if index == "-" else int(index) for index in told.groups()[1:3])
-        said[paths[told[1]]] = ("refused", (layer, feature, int(told[4]), int(told[5]), told[6]), [])
+    for case in cases.examples():
+        notes = [line.removeprefix("note ") for line in case.said.get("check", "").splitlines()[1:]]
+        said[case.name] = ("accepted", (None,) * 5, notes)
+        if told := FAULT.fullmatch(case.said.get("fault", "")):
+            layer, feature = (None if index == "-" else int(index) for index in told.groups()[:2])
+            said[case.name] = ("refused", (layer, feature, int(told[3]), int(told[4]), told[5]), [])
     return said
 
 
@@ -138,4 +129,4 @@ class Case(unittest.TestCase):
         self.assertEqual(error.count("\n"), 1, error)
 
 
-__all__ = ["AUDIT", "EVIDENCE", "FOUND", "Case", "audit", "at_places", "check", "example_tiles", "json", "make_mbtiles", "make_tree", "packings", "rows", "signal", "start"]
+__all__ = ["AUDIT", "EVIDENCE", "FOUND", "Case", "audit", "at_places", "example_tiles", "json", "make_mbtiles", "make_tree", "packings", "rows", "said_by_program", "signal", "start"]

@@ -11,10 +11,6 @@ if os.environ.get("PYTHONPATH"):
     os.environ["PYTHONPATH"] = os.pathsep.join(map(os.path.abspath, os.environ["PYTHONPATH"].split(os.pathsep)))
 sys.path.insert(0, str(Path(__file__).parent))
 
-# These want what the producers wrote, or make a page to be looked at.
-collect_ignore = ["make_page.py", "test_producers.py"]
-
-
 @pytest.fixture
 def store(tmp_path):
     """A folder of a good, a refused and an empty tile."""

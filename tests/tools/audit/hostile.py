@@ -11,7 +11,7 @@ from mvt_tools.audit.judging import judged
 from mvt_tools.stores import Options
 
 # So many seconds nothing here takes by far, on a machine that has others to serve.
-PATIENCE = 30
+PATIENCE = 120
 
 
 @contextlib.contextmanager

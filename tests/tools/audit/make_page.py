@@ -1,4 +1,4 @@
-"""An audit to be looked at: make_page.py FOLDER. Its store has a tile of each cause, whole ones, some that viewers stumble over,
+"""An audit to be looked at: make_page.py FOLDER, or test_page.py. Its store has a tile of each cause, whole ones, some that viewers stumble over,
 and texts that are HTML."""
 
 import gzip
@@ -20,8 +20,7 @@ def hostile():
     return whole, large, field(3, field(15, 2) + field(1, text.encode()) + field(2, feature))
 
 
-def main():
-    folder = Path(sys.argv[1])
+def make(folder):
     folder.mkdir(parents=True)
     tiles = example_tiles()
     # a whole tile in front of each broken one, so that there is something to see
@@ -32,7 +31,8 @@ def main():
     make_mbtiles(folder / "town & <b>country.mbtiles", places)
     status, out, error = audit(folder / "town & <b>country.mbtiles", "--into", folder / "audit")
     assert status == 1 and not error, (status, error)
-    print(out)
+    return out
 
 
-main()
+if __name__ == "__main__":
+    print(make(Path(sys.argv[1])))

@@ -5,7 +5,7 @@ import subprocess
 import unittest
 from pathlib import Path
 
-from common import Case, at_places, audit, check, example_tiles, json, make_mbtiles, make_tree, packings, rows
+from common import Case, at_places, audit, example_tiles, json, make_mbtiles, make_tree, packings, rows, said_by_program
 
 COLUMNS = "verdict, layer, feature, place, cause, cause_name, notes, bytes"
 
@@ -17,8 +17,8 @@ class Agree(Case):
         # What begins as a gzip is one to the audit, and a broken one.
         del tiles["04-WireType-gzip"]
         cls.tiles = tiles
-        cls.said = check(tiles)
-        assert set(cls.said) == set(tiles)
+        cls.said = said_by_program()
+        assert set(cls.said) >= set(tiles)
 
     def expected(self, name):
         verdict, fault, notes = self.said[name]

@@ -10,8 +10,8 @@ from pathlib import Path
 
 import archives
 from common import EVIDENCE, FOUND, TOP, Case, at_places, audit, example_tiles, json, make_mbtiles, make_tree, packings, rows
-from evidence import layer, line, numeral, point, tile
-from feature import field
+from evidence import layer, line, point, tile
+from wire import field
 from mvt import Finding
 from mvt_tools import stores
 from mvt_tools.audit.judging import Judge, Row, Said, judged, judged_part
@@ -21,7 +21,7 @@ from mvt_tools.stores import Address
 KINDS = ("ZeroExtent", "NoGeometry", "UnknownGeometry", "FarPoint", "LargeId", "LargeNumber")
 FAR = line((1024, 1024), (16384, 1024), (20000, 3072))
 # Two layers: in the first a far line, a good one and two without geometry, in the second a far point with a large id.
-SEVERAL = layer("a", [FAR, line((0, 0), (1, 1)), b"", b""]) + layer("b", [numeral(1, 2**53) + point(0, -20000)])
+SEVERAL = layer("a", [FAR, line((0, 0), (1, 1)), b"", b""]) + layer("b", [field(1, 2**53) + point(0, -20000)])
 SEVERAL_SAID = (
     "FarPoint layer 0 feature 0 position 16384 1024; NoGeometry layer 0 feature 2; LargeId layer 1 feature 0"
 )
@@ -161,7 +161,7 @@ class Tiles(unittest.TestCase):
         # each feature is two bytes, and has a finding
         features = 2_000_000
         before = resource.getrusage(resource.RUSAGE_SELF).ru_maxrss
-        row = self.row(field(3, numeral(15, 2) + field(1, b"a") + b"\x12\x00" * features))
+        row = self.row(field(3, field(15, 2) + field(1, b"a") + b"\x12\x00" * features))
         grown = (resource.getrusage(resource.RUSAGE_SELF).ru_maxrss - before) * 1024
         self.assertEqual((row.findings, row.lint), (features, "NoGeometry layer 0 feature 0"))
         self.assertLess(grown, 300 * features)

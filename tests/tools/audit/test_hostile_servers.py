@@ -5,11 +5,12 @@ import gzip
 import http.server
 import json
 import threading
+import unicodedata
 
 import pytest
 from common import at_places, make_tree
 from hostile import audited, in_time, short
-from hypothesis import given, settings
+from hypothesis import example, given, settings
 from hypothesis import strategies as make
 from mvt_tools import stores
 from mvt_tools.stores import Options, StoreError
@@ -22,7 +23,7 @@ TILE = b"\x1a\x04\x78\x02\x0a\x00" + b"\x7a\x80\xb5\x18" + bytes(400_000)
 
 @pytest.fixture(autouse=True)
 def patience():
-    with in_time(60):
+    with in_time():
         yield
 
 
@@ -115,7 +116,7 @@ def test_a_question_that_is_given_up_ends_its_connection(serving):
     def endless(handler):
         handler.wfile.write(b"HTTP/1.0 200 OK\r\n\r\n")
         try:
-            for _ in range(200):
+            while True:
                 handler.wfile.write(TILE)
                 threading.Event().wait(0.1)
         except OSError:
@@ -123,12 +124,12 @@ def test_a_question_that_is_given_up_ends_its_connection(serving):
             raise
 
     server = serving(lambda path: endless)
-    store = stores.opened(server.address + "/{z}/{x}/{y}", Options(zooms=(0, 0), timeout=20))
+    store = stores.opened(server.address + "/{z}/{x}/{y}", Options(zooms=(0, 0), timeout=120))
     store.check()
     asked = store.since(None)
     next(asked)
     asked.close()
-    assert ended.wait(10)
+    assert ended.wait(60)
 
 
 # ---- what a head says
@@ -160,10 +161,10 @@ HEADS = {
 @pytest.mark.parametrize("head", HEADS)
 def test_an_odd_head_is_a_row_of_one_line(head, serving):
     server = serving(lambda path: sent(HEADS[head]))
-    for row in audited(server.address + "/{z}/{x}/{y}", zooms=(0, 1), timeout=3):
+    for row in audited(server.address + "/{z}/{x}/{y}", zooms=(0, 1)):
         assert row.notes.isprintable() and len(row.notes) < 200
     with pytest.raises(StoreError) as why:
-        audited(server.address + "/tiles.json", timeout=3)
+        audited(server.address + "/tiles.json")
     assert str(why.value).isprintable()
 
 
@@ -175,7 +176,7 @@ GOOD = {"tiles": ["{z}/{x}/{y}"], "minzoom": 0, "maxzoom": 1}
 def told(serving, said):
     """What a store of such a TileJSON answers: its state, or why it has none."""
     server = serving(lambda path: (200, {}, said if isinstance(said, bytes) else json.dumps(said).encode()))
-    return stores.opened(server.address + "/tiles.json", Options(timeout=5)).state()
+    return stores.opened(server.address + "/tiles.json", Options(timeout=60)).state()
 
 
 ADDRESSES = ["http://[/{z}/{x}/{y}", "http://[::1/{z}/{x}/{y}", "http://a:b/{z}/{x}/{y}", "http://a:99999999/{z}/{x}/{y}", 
@@ -256,8 +257,14 @@ _NEARLY = make.fixed_dictionaries(
 )  # fmt: skip
 
 
+def is_shown(text):
+    """Whether no letter of a text is obeyed: a space of any kind stays as it is."""
+    return all(letter.isprintable() or unicodedata.category(letter) == "Zs" for letter in text)
+
+
 @settings(max_examples=200, deadline=None)
 @given(_NAMED | _NEARLY, make.booleans())
+@example({"tiles": ["\xa0"], "maxzoom": 0}, False)
 def test_any_tilejson_is_a_store_or_refused(said, is_packed):
     plain = json.dumps(said).encode()
     answer = reader.Answer(200, "OK", "", gzip.compress(plain) if is_packed else plain)
@@ -268,7 +275,7 @@ def test_any_tilejson_is_a_store_or_refused(said, is_packed):
         try:
             state = store.state()
         except StoreError as why:
-            assert str(why).isprintable()
+            assert is_shown(str(why))
             return
         assert 0 < state.tiles < 1 << 63
         assert next(store.ranges(100))[0] == 0

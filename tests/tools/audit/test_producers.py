@@ -1,11 +1,12 @@
-"""Of an MBTiles file that a producer wrote the audit says what docs/OTHER_PROGRAMS.md says of the same tiles as files:
-test_producers.py FOLDER SET, where the file is FOLDER/SET.mbtiles. FOLDER keeps the audit, in SET-audit."""
+"""Of an MBTiles file that a producer wrote the audit says what docs/OTHER_PROGRAMS.md says of the same tiles as files."""
 
 import re
-import sys
+import subprocess
 from pathlib import Path
 
+import pytest
 from common import TOP, audit, json, rows
+from room import needs, run
 
 
 def told(name):
@@ -18,8 +19,7 @@ def told(name):
     raise AssertionError(f"no set {name}")
 
 
-def main():
-    folder, name = Path(sys.argv[1]), sys.argv[2]
+def check(folder, name):
     tiles, refused, causes, notes = told(name)
     status, out, error = audit(folder / f"{name}.mbtiles", "--into", folder / f"{name}-audit", "--json", "--anew")
     found = json.loads(out)
@@ -33,4 +33,15 @@ def main():
     assert sum(each["tiles"] for each in found["layers"]) == refused
 
 
-main()
+@needs("ogr2ogr")
+def test_gdal(tmp_path):
+    if subprocess.run(["dpkg", "-s", "python-cartopy-data"], capture_output=True).returncode:
+        pytest.skip("evidence/producers/install wasn't run")
+    run(TOP / "evidence/producers/gdal", tmp_path / "made")
+    check(tmp_path / "made", "gdal-lakes")
+
+
+@needs("tilemaker", "osmium")
+def test_tilemaker(tmp_path):
+    run(TOP / "evidence/producers/tilemaker", tmp_path / "made")
+    check(tmp_path / "made", "tilemaker-world")

@@ -8,7 +8,8 @@ from pathlib import Path
 import mvt
 from common import TOP, example_tiles
 from mvt._mvt import cause_text
-from mvt_tools.audit.report import fields, maps, pictures, sentences, shapes
+from mvt_tools.audit.report import maps, pictures, sentences, shapes
+from wire import field, packed
 
 
 def causes():
@@ -42,14 +43,9 @@ class Words(unittest.TestCase):
                     pictures.close_up(tile, mvt.Refused(layer, feature, at, cause, "Name"))
 
 
-def varint(number):
-    return bytes([number]) if number < 128 else bytes([number & 127 | 128]) + varint(number >> 7)
-
-
 def paths(integers):
     """What the integers of a feature of a tile draw."""
-    feature = fields.spelled(4, b"".join(map(varint, integers)))
-    tile = fields.spelled(3, fields.spelled(2, feature))
+    tile = field(3, field(2, field(4, packed(integers))))
     return mvt.around(tile, mvt.Refused(0, 0, 0, 17, "Command")).paths()
 
 
@@ -97,17 +93,15 @@ class Pictures(unittest.TestCase):
             with self.subTest(name):
                 self.assertEqual(pictures._drawing(tile), re.sub("<title>[^<]*</title>\n?", "", drawn))
 
-    def test_only_what_a_path_of_numbers_leads_to_is_left_out(self):
-        # a layer with two features: tags, kind, geometry; tags a number each and once more, kind
-        first, second = b"\x12\x02\0\0\x18\x01\x22\x03\x09\x04\x04", b"\x10\0\x10\0\x12\x01\0\x18\x02"
-        layer = b"\x78\x02\x0a\0" + fields.spelled(2, first) + fields.spelled(2, second) + b"\x1a\0"
-        other = b"\x7a\x02\x12\0"
-        wanted = b"\x78\x02\x0a\0" + fields.spelled(2, first[4:]) + fields.spelled(2, b"\x18\x02") + b"\x1a\0"
-        got = fields.without(other + fields.spelled(3, layer) + other, (fields.LAYERS, fields.FEATURES, fields.TAGS))
-        self.assertEqual(got, other + fields.spelled(3, wanted) + other)
-        # a number is no message, and what can't be split stays
-        self.assertEqual(fields.without(b"\x18\x05\x1a\x09\x12", (3, 2)), b"\x18\x05\x1a\x09\x12")
-        self.assertEqual(fields.spelled(3, bytes(300))[:3], b"\x1a\xac\x02")
+    def test_only_what_is_broken_is_left_out(self):
+        """A layer of 300 bytes with two features, of which the second is broken, between two others."""
+        drawn, broken = b"\x18\x01\x22\x03\x09\x04\x04", b"\x18\x02\x22\x07\x09\x04\x04\x0a\0\0\0"
+        before, behind = (field(3, b"\x78\x02" + field(1, name)) for name in (b"a", b"c"))
+        head = b"\x78\x02" + field(1, b"b" * 300) + field(2, drawn)
+        tile = before + field(3, head + field(2, broken)) + behind
+        self.assertEqual(pictures.good_part(tile), (before + field(3, head) + behind, 1))
+        self.assertEqual(pictures.good_part(tile + b"\x1a\x02\x78\x02"), (before + field(3, head) + behind, 2))
+        self.assertEqual(pictures.good_part(tile + b"\x1a"), (before + field(3, head) + behind, 2))
 
 
 class Maps(unittest.TestCase):

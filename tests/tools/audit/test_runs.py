@@ -17,7 +17,7 @@ from deadly import Deadly
 from mvt_tools.audit import engine
 from mvt_tools.audit.results import Results
 
-from common import AUDIT, Case, at_places, audit, check, example_tiles, json, make_mbtiles, make_tree, rows, start
+from common import AUDIT, Case, at_places, audit, example_tiles, json, make_mbtiles, make_tree, rows, said_by_program, start
 from processes import until
 
 DASK = {"scheduler": "distributed.cli.dask_scheduler", "worker": "distributed.cli.dask_worker"}
@@ -52,9 +52,10 @@ class Program:
 class Runs(Case):
     def setUp(self):
         super().setUp()
-        tiles = [tile for name, tile in example_tiles().items() if len(tile) < 10_000 and not name.endswith("gzip")]
-        make_tree(self.room / "tree", at_places(tiles))
-        self.said = check(dict(enumerate(tiles)))
+        tiles = {name: tile for name, tile in example_tiles().items() if len(tile) < 10_000 and not name.endswith("gzip")}
+        make_tree(self.room / "tree", at_places(tiles.values()))
+        said = said_by_program()
+        self.said = {number: said[name] for number, name in enumerate(tiles)}
         self.count = len(tiles)
 
     def listed(self, times):

@@ -1,12 +1,13 @@
-"""What the page's tests in Python share. `--changed FOLDER` names tiles of which many are broken (tests/library/mutate.py)."""
+"""What the page's tests in Python share."""
+
+import sys
 
 import pytest
 
+from room import TOP
 from serving import Serving
 
-
-def pytest_addoption(parser):
-    parser.addoption("--changed", metavar="FOLDER", help="a folder of changed tiles")
+sys.path[:0] = [str(TOP / "tests" / "program"), str(TOP / "fixtures" / "tiles")]
 
 
 @pytest.fixture(scope="module")

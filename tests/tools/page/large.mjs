@@ -1,6 +1,6 @@
 // Large tiles: of lines, of points, and of many layers.
 
-function varint(number) {
+export function varint(number) {
   const bytes = [];
   let left = number;
   while (left >= 128) {

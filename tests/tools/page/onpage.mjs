@@ -2,55 +2,82 @@
 import { existsSync, readFileSync, writeFileSync } from 'node:fs';
 import { join } from 'node:path';
 import { Browser } from './browser.mjs';
-import { Counts } from './counts.mjs';
+import { check, chromium, folder } from './checks.mjs';
+import { Serving } from './serving.mjs';
 
 export const tiles = new URL('../../../fixtures/tiles', import.meta.url).pathname;
 
 export class OnPage {
-  counts = new Counts();
+  folder = folder;
+  #browser = null;
+  #serving = null;
 
-  /** `address` is where the page is served, and the folder is for what is made. */
-  constructor([chromium, address, folder]) {
-    this.browser = new Browser(chromium);
-    this.url = address;
-    this.folder = folder;
+  /** `url` is where the page is served; without it a server is begun. */
+  constructor(url = null) {
+    this.url = url;
+  }
+
+  get browser() {
+    this.#browser ??= new Browser(chromium);
+    return this.#browser;
   }
 
   /** Writes a file, and answers its path. */
   made(name, bytes) {
-    writeFileSync(join(this.folder, name), bytes);
-    return join(this.folder, name);
+    writeFileSync(join(folder, name), bytes);
+    return join(folder, name);
   }
 
-  /** One check in a page of its own, in which nothing may be thrown. */
-  async check(name, how, holds) {
-    await this.counts.check(name, async () => {
-      const page = await this.browser.page(this.url, how);
-      try {
-        const told = await holds(page);
-        return page.errors.length > 0 ? page.errors.join('; ') : told;
-      } finally {
-        await page.close();
-      }
-    });
+  /** What holds in a page of its own, in which nothing may be thrown. */
+  async inPage(how, holds) {
+    if (this.url === null) {
+      this.#serving = await Serving.start();
+      this.url = this.#serving.address;
+    }
+    const page = await this.browser.page(this.url, how);
+    try {
+      const told = await holds(page);
+      return page.errors.length > 0 ? page.errors.join('; ') : told;
+    } finally {
+      await page.close();
+    }
+  }
+
+  /** A test in a page of its own. */
+  check(name, how, holds) {
+    return check(name, () => this.inPage(how, holds), { chromium });
   }
 
   /** What a page saves when a button is clicked, once it is there. */
   async saved(page, button, name) {
-    const path = join(this.folder, name);
-    await this.browser.send('Browser.setDownloadBehavior', { behavior: 'allow', downloadPath: this.folder });
+    const path = join(folder, name);
+    await this.browser.send('Browser.setDownloadBehavior', { behavior: 'allow', downloadPath: folder });
     await page.value(clickNamed(button));
-    for (const end = Date.now() + 20_000; !existsSync(path) || existsSync(`${path}.crdownload`);) {
-      if (Date.now() > end) throw new Error(`not saved after 20 seconds: ${name}`);
+    for (const end = Date.now() + 60_000; !existsSync(path) || existsSync(`${path}.crdownload`);) {
+      if (Date.now() > end) throw new Error(`not saved after 60 seconds: ${name}`);
       await new Promise((resolve) => setTimeout(resolve, 50));
     }
     return readFileSync(path);
   }
 
   async end() {
-    await this.browser.close();
-    this.counts.end();
+    await this.#browser?.close();
+    await this.#serving?.end();
   }
+}
+
+/** A test with a server of its own, which is given some words, and may end; `before` are words that start it. */
+export async function withServer(name, words, how, holds, before = [], wants = {}) {
+  await check(name, async () => {
+    const serving = await Serving.start(words, before);
+    const on = new OnPage(serving.address);
+    try {
+      return await on.inPage(how, (page) => holds(page, serving, on));
+    } finally {
+      await on.end();
+      await serving.end();
+    }
+  }, { chromium, ...wants });
 }
 
 export const texts = (selector) => `[...document.querySelectorAll(${JSON.stringify(selector)})].map((each) => each.textContent)`;
@@ -95,4 +122,4 @@ export async function spotOf(page, x, y) {
   })()`);
 }
 
-export const same = (got, wanted) => JSON.stringify(got) === JSON.stringify(wanted) || `${JSON.stringify(got)}, wanted ${JSON.stringify(wanted)}`;
+export { same } from './checks.mjs';

@@ -1,10 +1,12 @@
-// The pictures of the page for the documents: pictures.mjs CHROMIUM FOLDER STORES. The last has what make_stores.py made.
+// The pictures of the page for the documents: pictures.mjs FOLDER STORES. The last has what make_stores.py made.
+import { writeFileSync } from 'node:fs';
+import { join } from 'node:path';
 import { OnPage, click, clickLabelled, drawn, look, tiles } from './onpage.mjs';
 import { Serving } from './serving.mjs';
 
-const [chromium, folder, stores] = process.argv.slice(2);
+const [folder, stores] = process.argv.slice(2);
 const serving = await Serving.start();
-const on = new OnPage([chromium, serving.address, folder]);
+const on = new OnPage(serving.address);
 const WIDE = { width: 1400, height: 900 };
 const PHONE = { width: 390, height: 844, dark: true };
 
@@ -13,7 +15,7 @@ async function picture(name, how, does, url = on.url) {
   const page = await on.browser.page(url, how);
   await does(page);
   await new Promise((resolve) => setTimeout(resolve, 500));
-  on.made(`${name}.png`, await page.screenshot());
+  writeFileSync(join(folder, `${name}.png`), await page.screenshot());
   await page.close();
 }
 
@@ -48,6 +50,6 @@ await picture('page-store', WIDE, async (page) => {
   await page.until("document.querySelector('#list [role=status]').textContent.includes('which are all')");
 }, given.address);
 
-await on.browser.close();
+await on.end();
 await given.end();
 await serving.end();

@@ -3,7 +3,7 @@ import { spawn } from 'node:child_process';
 import { readFileSync } from 'node:fs';
 
 const COMMAND = process.env.MVT_PAGE ? [process.env.MVT_PAGE] : [process.env.PYTHON ?? 'python3', '-m', 'mvt_tools.page'];
-const DEADLINE = 30_000;
+const DEADLINE = 60_000;
 
 export class Serving {
   #process;

@@ -23,6 +23,15 @@ def heed_signals():
         signal.signal(number, signal.SIG_DFL)
 
 
+def until(said):
+    """Waits until that is so, for a minute at most."""
+    for _ in range(1200):
+        if said():
+            return
+        time.sleep(0.05)
+    raise AssertionError("it never was so")
+
+
 class Serving:
     """A server that runs until the block ends."""
 
@@ -36,7 +45,7 @@ class Serving:
         self.out, self.error = Path(self.log.name, "out"), Path(self.log.name, "error")
         with self.out.open("w") as out, self.error.open("w") as error:
             self.process = subprocess.Popen(self.words, stdout=out, stderr=error, env=self.env, **self.how)
-        for _ in range(200):
+        for _ in range(1200):
             found = re.search(r"http://127\.0\.0\.1:(\d+)(/\S+/)\n.*\n", self.out.read_text())
             if found is not None:
                 self.address, self.port, self.path = f"http://127.0.0.1:{found[1]}{found[2]}", int(found[1]), found[2]
@@ -54,7 +63,7 @@ class Serving:
         """Ends it by a signal: its status, and what it said."""
         if self.process.poll() is None:
             self.process.send_signal(number)
-        return self.process.wait(timeout=20), self.out.read_text(), self.error.read_text()
+        return self.process.wait(timeout=60), self.out.read_text(), self.error.read_text()
 
     def memory(self, what="VmRSS"):
         """Its memory, in MB."""
@@ -77,7 +86,7 @@ class Serving:
         assert status == 200, (status, answer)
         return answer
 
-    def raw(self, sent, ends=True, timeout=20):
+    def raw(self, sent, ends=True, timeout=60):
         """What comes back for bytes; nothing where the connection is only closed. `ends`: that no more bytes come is told."""
         with socket.create_connection(("127.0.0.1", self.port), timeout=timeout) as connection:
             got = b""

@@ -1,45 +1,50 @@
-"""Where faults stand, as the server answers `explain`, and as tests/program/places.py finds by itself."""
+"""Where faults stand, as the server answers `explain`, is as the program says (fixtures/tiles/cases.py)."""
 
 import struct
-import sys
-from pathlib import Path
+from types import SimpleNamespace
 
+import cases
+import places
+import pytest
 from mvt._numbers import LOOKALIKES
-from serving import TILES
-
-sys.path.insert(0, str(Path(__file__).resolve().parents[2] / "program"))
-import places  # noqa: E402
+from room import others
 
 
 def read(told):
-    """An answer: what the bytes look like, the fault, its place as places.Place has it, and the sentence."""
+    """An answer: what the bytes look like, the fault, its place, and the sentence."""
     kind, layer, feature, at, cause, length = struct.unpack_from("<IqqQII", told, 4)
-    fault = places.Fault(None if layer < 0 else layer, None if feature < 0 else feature, at, cause)
+    name = told[40 : 40 + length].decode()
+    fault = SimpleNamespace(layer=None if layer < 0 else layer, feature=None if feature < 0 else feature, at=at, cause=cause, name=name)
     looks, begin = None, 40 + length
     if kind:
         (size,) = struct.unpack_from("<I", told, begin)
         looks, begin = told[begin + 4 : begin + 4 + size].decode(), begin + 4 + size
-    has_name, has_id, number, start, end, name, sentence = struct.unpack_from("<IIQQQII", told, begin)
+    has_name, has_id, number, start, end, length, sentence = struct.unpack_from("<IIQQQII", told, begin)
     words = told[begin + 40 :]
-    assert len(words) == name + sentence
-    place = words[:name] if has_name else None, number if has_id else None, start, end
-    said = words[name:].decode()
+    assert len(words) == length + sentence
+    place = SimpleNamespace(name=words[:length] if has_name else None, id=number if has_id else None, start=start, end=end)
+    said = words[length:].decode()
     assert looks in (None, said)
     return LOOKALIKES.get(kind), fault, place, said
 
 
-def test_each_place(serving, pytestconfig):
-    """Of the broken tiles, and of the changed ones where there are some."""
-    changed = pytestconfig.getoption("changed")
-    given = sorted([*(TILES / "broken").glob("*.mvt*"), *(Path(changed).iterdir() if changed else [])])
-    sentences, refused = places.documented(), 0
-    for name, tile in places.tiles(map(str, given)):
-        told = serving.call("explain", tile[: places.LIMIT + 1])
-        if told == struct.pack("<II", 0, 0):
-            continue
-        refused += 1
-        kind, fault, place, sentence = read(told)
-        assert kind == places.looks_like(tile), name
-        assert place == places.find(tile[: places.LIMIT + 1], fault)[:4], name
-        assert not places.sentence_fails(tile, fault.cause, sentence, sentences), (name, sentence)
-    assert refused > len(given) / 2
+def line_of(fault):
+    layer, feature = ("-" if index is None else index for index in (fault.layer, fault.feature))
+    return f"layer {layer} feature {feature} at {fault.at}: {fault.cause} {fault.name}\n"
+
+
+def right(case, told):
+    """Whether an answer says of a case what the program does."""
+    if "fault" not in case.said:
+        return told == struct.pack("<II", 0, 0)
+    kind, fault, place, sentence = read(told)
+    holders = "" if fault.layer is None else places.holders_line(fault, place) + "\n"
+    said = line_of(fault), f"{place.start} {place.end}\n", f"{sentence}\n", kind
+    wanted = case.said["fault"], case.said["place"], case.said["sentence"], places.looks_like(case.tile)
+    return said == wanted and case.said["explain"].startswith(holders)
+
+
+@pytest.mark.parametrize("part", ["examples", *cases.OTHERS])
+def test_each_place(serving, part):
+    given = cases.examples() if part == "examples" else cases.read(others() / part)
+    assert not [case.name for case in given if not right(case, serving.call("explain", case.tile[: places.LIMIT + 1]))]

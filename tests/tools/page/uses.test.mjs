@@ -1,10 +1,10 @@
-// How a person uses the page in headless Chromium, by mouse, fingers and keys: uses.mjs CHROMIUM ADDRESS FOLDER
+// How a person uses the page in headless Chromium, by mouse, fingers and keys.
 import { readFileSync } from 'node:fs';
 import { brotliCompressSync, gzipSync } from 'node:zlib';
 import { pointTile } from './large.mjs';
 import { OnPage, click, clickNamed, colourAt, drawn, look, painted, same, spotOf, textOf, texts, tiles } from './onpage.mjs';
 
-const on = new OnPage(process.argv.slice(2));
+const on = new OnPage();
 const made = on.made.bind(on);
 const onPage = on.check.bind(on);
 const WIDE = { width: 1400, height: 900 };
@@ -276,12 +276,12 @@ await onPage('keys go through a list', WIDE, async (page) => {
   await look(page, several);
   await page.value("document.querySelector('#list .rows').focus()");
   const seen = [];
-  for (const key of ['ArrowDown', 'ArrowDown', 'End']) {
+  for (const [key, name] of [['ArrowDown', 'gdal.mvt'], ['ArrowDown', '22-FirstRing.mvt'], ['End', '20-ZeroSegment.mvt']]) {
     await page.press(key);
-    await new Promise((resolve) => setTimeout(resolve, 100));
-    seen.push(await page.value('document.activeElement.textContent'));
+    await page.until(`document.activeElement.textContent === '${name}'`);
+    seen.push(name);
   }
-  return same(seen, ['gdal.mvt', '22-FirstRing.mvt', '20-ZeroSegment.mvt']);
+  return seen.length === 3;
 });
 
 await onPage('targets have 24 pixels', PHONE, async (page) => {

@@ -1,11 +1,10 @@
-// How much the page does with large tiles and long lists before a person waits: budgets.mjs CHROMIUM FOLDER. It is told as
-// counts: tasks that keep the page for more than 100 ms, elements, memory. Times are bounded too, and generously.
+// How much the page does with large tiles and long lists before a person waits. It is told as counts: tasks that keep the page for more than 100 ms, elements, memory. Times are bounded too, and generously.
 import { readFileSync, readdirSync, rmSync } from 'node:fs';
+import { check, chromium, folder } from './checks.mjs';
 import { OnPage, drawn, look, same, textOf, texts, tiles } from './onpage.mjs';
 import { largeTile, layeredTile, pointTile } from './large.mjs';
 import { Serving } from './serving.mjs';
 
-const [chromium, folder] = process.argv.slice(2);
 const WIDE = { width: 1400, height: 900 };
 const ELEMENTS = 1500;
 /** Milliseconds of a processor. */
@@ -13,7 +12,7 @@ const LONGEST = 100;
 /** MB of the server's memory. */
 const SERVER = 500;
 /** Machines that do other work are slower. */
-const SLOWER = Number(process.env.SLOWER ?? 10);
+const SLOWER = Number(process.env.SLOWER ?? 20);
 
 /** The processes that show pages. */
 async function processesOf(browser) {
@@ -36,44 +35,42 @@ async function workedOf(browser) {
 }
 
 /** How often a check is made at most: see `budget`. */
-const TRIES = 3;
+const TRIES = 5;
 
 /**
  * A check in a browser and with a server of its own, so that their memory can be told; the page's start is counted too. Where
- * a task was too long it is made again, up to three times: what the page does is as long each time, and what a busy machine
+ * a task was too long it is made again, up to five times: what the page does is as long each time, and what a busy machine
  * counts to a task now and then isn't.
  */
 async function budget(name, holds) {
-  for (let tries = 1; ; tries += 1) {
-    const { counts, long } = await measured(name, holds, tries === TRIES);
-    if (tries < TRIES && long.length > 0) continue;
-    all.passed += counts.passed;
-    all.failed += counts.failed;
-    return;
-  }
+  await check(name, async () => {
+    for (let tries = 1; ; tries += 1) {
+      const { told, long } = await measured(name, holds, tries === TRIES);
+      if (tries === TRIES || long.length === 0) return told;
+    }
+  }, { chromium });
 }
 
-/** One try: what it counts, and its tasks that were too long, for which it fails where `isLast`. */
+/** One try: what it tells, and its tasks that were too long, for which it fails where `isLast`. */
 async function measured(name, holds, isLast) {
   const serving = await Serving.start();
-  const on = new OnPage([chromium, serving.address, folder]);
+  const on = new OnPage(serving.address);
   const recorded = await on.browser.record();
   let long = [];
-  await on.check(name, WIDE, async (page) => {
-    const told = await holds(page, on);
-    if (told !== true) return told;
+  const told = await on.inPage(WIDE, async (page) => {
+    const wrong = await holds(page, on);
+    if (wrong !== true) return wrong;
     const elements = await page.value("document.querySelectorAll('*').length");
     const tasks = await recorded(page);
     long = tasks.filter((each) => each > LONGEST).map(Math.round);
     if (process.env.TELL) console.log(`${name}: the longest of ${tasks.length} tasks ${Math.round(Math.max(...tasks))} ms, ${elements} elements, ${await memoryOf(on.browser)} MB, the server ${serving.memory} MB`);
     return same([tasks.length > 10, isLast ? long : [], elements < ELEMENTS || elements, serving.memory < SERVER || serving.memory], [true, [], true, true]);
   });
-  await on.browser.close();
+  await on.end();
   await serving.end();
-  return { counts: on.counts, long };
+  return { told, long };
 }
 
-const all = { passed: 0, failed: 0 };
 const since = (began) => (Date.now() - began) / 1000;
 const within = (began, seconds) => since(began) < seconds * SLOWER || `it took ${Math.round(since(began))} s`;
 
@@ -138,6 +135,3 @@ await budget('10,000 tiles of 1 kB', async (page, on) => {
   const lines = String(await on.saved(page, 'Save as CSV', 'tiles.csv')).split('\r\n').length;
   return same([title, time, lines], ['10,000 files: 9,900 accepted, 100 refused', true, 10_002]);
 });
-
-console.log(`counts ${all.passed} ${all.failed}`);
-process.exitCode = all.failed === 0 ? 0 : 1;

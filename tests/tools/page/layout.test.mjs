@@ -1,13 +1,11 @@
-// What the page says of rows (tools/mvt_tools/page/src/layout.js) is what a compiler makes of library/c/mvt.h: layout.mjs FOLDER. The folder is
-// for what it makes; the environment may name the compiler (CC).
+// What the page says of rows (tools/mvt_tools/page/src/layout.js) is what a compiler makes of library/c/mvt.h: the
+// environment may name the compiler (CC).
 import { execFileSync } from 'node:child_process';
 import { writeFileSync } from 'node:fs';
 import { join } from 'node:path';
 import * as layout from '../../../tools/mvt_tools/page/src/layout.js';
-import { Counts } from './counts.mjs';
+import { check, folder } from './checks.mjs';
 
-const counts = new Counts();
-const [folder] = process.argv.slice(2);
 const library = new URL('../../../library/c', import.meta.url).pathname;
 
 /** Expressions of C, with what the page takes each for. */
@@ -35,5 +33,4 @@ const [source, program] = [join(folder, 'layout.c'), join(folder, 'layout')];
 writeFileSync(source, ['#include <mvt.h>', '#include <stdio.h>', 'int main(void) {', ...lines, '    return 0;', '}', ''].join('\n'));
 execFileSync(process.env.CC ?? 'cc', ['-std=c11', '-I', library, source, '-o', program]);
 const told = execFileSync(program, { encoding: 'utf8' }).trim().split('\n').map(Number);
-for (const [at, [expression, number]] of [...taken].entries()) await counts.check(expression, () => told[at] === number || `${told[at]}, and the page says ${number}`);
-counts.end();
+for (const [at, [expression, number]] of [...taken].entries()) await check(expression, () => told[at] === number || `${told[at]}, and the page says ${number}`);

@@ -1,4 +1,4 @@
-"""Cases for `rt try --cases`: cases.py FOLDER. Each is an input, the words and the output that is wanted: of the example
+"""Cases for `rt try --cases`: quick_cases.py FOLDER. Each is an input, the words and the output that is wanted: of the example
 tiles what other programs made of them, of the broken ones nothing, by one command each, of every fifth row of tests/program
 what stands there, of README.md's commands what it shows below them. A case takes a second; tests/program has them all."""
 

@@ -1,14 +1,12 @@
-// Other sites get nothing of the page, and the page asks nothing of them: others.mjs CHROMIUM FOLDER. Another server of this
-// machine, also under names that lead here, has pages that know the address and try what they can.
+// Other sites get nothing of the page, and the page asks nothing of them. Another server of this machine, also
+// under names that lead here, has pages that know the address and try what they can.
 import { createServer } from 'node:http';
 import { readFileSync } from 'node:fs';
 import { Browser } from './browser.mjs';
-import { Counts } from './counts.mjs';
+import { check, chromium } from './checks.mjs';
 import { look, same, textOf, tiles } from './onpage.mjs';
 import { Serving } from './serving.mjs';
 
-const [chromium, folder] = process.argv.slice(2);
-const counts = new Counts();
 const serving = await Serving.start([`${tiles}/gdal.mvt`]);
 const { address } = serving;
 const { port, pathname } = new URL(address);
@@ -26,10 +24,11 @@ await new Promise((resolve) => others.listen(0, '127.0.0.1', resolve));
 const other = `http://127.0.0.1:${others.address().port}/`;
 const evil = `http://evil.test:${others.address().port}/`;
 
-const browser = new Browser(chromium, ['--host-resolver-rules=MAP *.test 127.0.0.1', '--disable-popup-blocking']);
+const browser = chromium && new Browser(chromium, ['--host-resolver-rules=MAP *.test 127.0.0.1', '--disable-popup-blocking']);
+const here = (name, holds) => check(name, holds, { chromium });
 
 /** The statuses, by path, of what a page asks of the server while it does something; `failed` is what got none. */
-async function statusesOf(page, does) {
+async function statusesOf(page, does, least = 1) {
   const requests = new Map();
   const told = {};
   browser.listen(({ method, params, sessionId }) => {
@@ -40,6 +39,7 @@ async function statusesOf(page, does) {
   });
   await page.send('Network.enable');
   await does();
+  for (const end = Date.now() + 60_000; requests.size < least && Date.now() < end;) await new Promise((resolve) => setTimeout(resolve, 50));
   await new Promise((resolve) => setTimeout(resolve, 1500));
   return { asked: requests.size, told };
 }
@@ -48,7 +48,7 @@ async function statusesOf(page, does) {
 const refused = (told) => Object.entries(told).filter(([, status]) => typeof status === 'number' && status !== 403 && status !== 405);
 
 for (const [name, site] of [['another port', other], ['another name', evil]]) {
-  await counts.check(`a page of ${name} reads nothing`, async () => {
+  await here(`a page of ${name} reads nothing`, async () => {
     const page = await browser.page(site);
     const tries = `Promise.all([
       fetch('${address}'), fetch('${address}given'), fetch('${address}files/0'), fetch('${address}judge', { method: 'POST', body: 'a' }),
@@ -56,12 +56,12 @@ for (const [name, site] of [['another port', other], ['another name', evil]]) {
     ].map((each) => each.then((answer) => answer.text(), () => 'nothing')))`;
     const { asked: count, told } = await statusesOf(page, async () => {
       page.got = await page.value(tries);
-    });
+    }, 6);
     await page.close();
     return same([[...new Set(page.got)], refused(told), count >= 6], [['nothing'], [], true]);
   });
 
-  await counts.check(`what a page of ${name} asks without looking is refused`, async () => {
+  await here(`what a page of ${name} asks without looking is refused`, async () => {
     const page = await browser.page(site);
     const { asked: count, told } = await statusesOf(page, () => page.value(`(async () => {
       for (const path of ['', 'given', 'files/0']) await fetch('${address}' + path, { mode: 'no-cors' }).catch(() => {});
@@ -73,12 +73,12 @@ for (const [name, site] of [['another port', other], ['another name', evil]]) {
         document.body.append(made);
       }
       navigator.sendBeacon('${address}rewrite', 'a');
-    })()`));
+    })()`), 9);
     await page.close();
     return same([refused(told), count >= 9 || count], [[], true]);
   });
 
-  await counts.check(`a page of ${name} has no frame of it`, async () => {
+  await here(`a page of ${name} has no frame of it`, async () => {
     const page = await browser.page(site);
     const { told } = await statusesOf(page, () => page.value(`(() => {
       for (const tag of ['iframe', 'embed', 'object']) {
@@ -99,7 +99,7 @@ for (const [name, site] of [['another port', other], ['another name', evil]]) {
   });
 }
 
-await counts.check('a name that leads here shows nothing', async () => {
+await here('a name that leads here shows nothing', async () => {
   const page = await browser.page(evil);
   const got = [];
   for (const name of ['evil.test', 'localhost.test', '127.0.0.1.test']) {
@@ -111,7 +111,7 @@ await counts.check('a name that leads here shows nothing', async () => {
   return same([...new Set(got)], ['This server is asked by its own name alone.', 'nothing']);
 });
 
-await counts.check('a link elsewhere leads to the page, which then is by itself', async () => {
+await here('a link elsewhere leads to the page, which then is by itself', async () => {
   const page = await browser.page(evil);
   await page.value("document.getElementById('link').click()");
   await page.until("location.port === '" + port + "' && document.body?.dataset.ready === 'yes' && document.querySelector('#tile article')");
@@ -120,12 +120,15 @@ await counts.check('a link elsewhere leads to the page, which then is by itself'
   return alone;
 });
 
-await counts.check('a page that opens it in a window holds nothing of it', async () => {
+await here('a page that opens it in a window holds nothing of it', async () => {
   const page = await browser.page(evil);
   const held = await page.value(`(async () => {
     const opened = window.open('${address}');
-    await new Promise((resolve) => setTimeout(resolve, 2000));
-    try { return opened.closed ? 'cut off' : String(opened.document.title); } catch (error) { return error.name; }
+    for (let tries = 0; tries < 600; tries += 1) {
+      await new Promise((resolve) => setTimeout(resolve, 100));
+      try { if (opened.closed || opened.document.title !== '') return opened.closed ? 'cut off' : opened.document.title; } catch (error) { return error.name; }
+    }
+    return 'nothing came';
   })()`);
   const { targetInfos } = await browser.send('Target.getTargets');
   const [target] = targetInfos.filter(({ url }) => url === address);
@@ -145,7 +148,7 @@ const inWorker = (script) => `new Promise((resolve) => {
   worker.onerror = () => resolve('failed');
 })`;
 
-await counts.check('the page and its workers reach its own server alone', async () => {
+await here('the page and its workers reach its own server alone', async () => {
   const page = await browser.page(address);
   asked.length = 0;
   const got = [];
@@ -155,7 +158,7 @@ await counts.check('the page and its workers reach its own server alone', async 
   return same([[...new Set(got)], own, asked], [['nothing'], ['reached', 'reached'], []]);
 });
 
-await counts.check('the page takes no script, picture, frame, form or base from elsewhere', async () => {
+await here('the page takes no script, picture, frame, form or base from elsewhere', async () => {
   const page = await browser.page(address);
   asked.length = 0;
   const taken = await page.value(`(async () => {
@@ -177,7 +180,7 @@ await counts.check('the page takes no script, picture, frame, form or base from 
   return same([taken.slice(0, 3), asked], [[false, true, true], []]);
 });
 
-await counts.check('after all that the page is served', async () => {
+await here('after all that the page is served', async () => {
   const page = await browser.page(address);
   await look(page, [`${tiles}/gdal.mvt`]);
   const facts = await page.value(textOf('.facts'));
@@ -185,7 +188,6 @@ await counts.check('after all that the page is served', async () => {
   return same([facts, (await (await fetch(`${address}judge`, { method: 'POST', body: Buffer.from(tile, 'base64') })).arrayBuffer()).byteLength], ['499 bytes, 3 layers, 7 features, 30 positions.', 8]);
 });
 
-await browser.close();
+await browser?.close();
 await serving.end();
 others.close();
-counts.end();

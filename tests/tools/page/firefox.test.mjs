@@ -1,11 +1,10 @@
-// The page in headless Firefox: firefox.mjs FIREFOX ADDRESS FOLDER STORES. What it shows of tiles is compared in Chromium; here
-// it is seen to work in a second browser. The folder is for what is made; the last has what make_stores.py made.
+// The page in headless Firefox. What it shows of tiles is compared in Chromium; here it is seen to work in a second browser.
 import { spawn } from 'node:child_process';
 import { existsSync, mkdtempSync, readFileSync, rmSync, writeFileSync } from 'node:fs';
 import { connect } from 'node:net';
 import { tmpdir } from 'node:os';
 import { join } from 'node:path';
-import { Counts } from './counts.mjs';
+import { check, firefox as program, stores } from './checks.mjs';
 import { colourAt, same, textOf, texts, tiles } from './onpage.mjs';
 import { Serving } from './serving.mjs';
 
@@ -89,10 +88,6 @@ class Firefox {
     await this.send('WebDriver:PerformActions', { actions: [{ type: 'key', id: 'keys', actions }] });
   }
 
-  async screenshot() {
-    return Buffer.from((await this.send('WebDriver:TakeScreenshot', { full: false, hash: false })).value, 'base64');
-  }
-
   async close() {
     const closed = new Promise((resolve) => this.#process.once('exit', resolve));
     await this.send('Marionette:Quit', { flags: ['eForceQuit'] }).catch(() => this.#process.kill());
@@ -102,57 +97,56 @@ class Firefox {
   }
 }
 
-const [program, address, folder, stores] = process.argv.slice(2);
-const counts = new Counts();
+const wants = { firefox: program, MVT_STORES: stores };
 const firefox = new Firefox();
-await firefox.start(program, { width: 1400, height: 900 });
+const serving = await Serving.start();
+const { address } = serving;
+if (program !== undefined) await firefox.start(program, { width: 1400, height: 900 });
 
-/** One check in a page that was opened anew, of which the folder gets a picture. */
-async function check(name, files, holds) {
-  await counts.check(name, async () => {
+/** A test in a page that was opened anew and was given files. */
+async function opened(name, files, holds) {
+  await check(name, async () => {
     await firefox.open(address);
     await firefox.choose(files);
     await firefox.until("document.querySelector('#tile article, #list tbody tr') && !document.body.classList.contains('busy')");
-    const told = await holds();
-    writeFileSync(join(folder, `firefox-${name.replaceAll(' ', '-')}.png`), await firefox.screenshot());
-    return told;
-  });
+    return holds();
+  }, wants);
 }
 
-await check('a good tile', [`${tiles}/gdal.mvt`], async () => {
+await opened('a good tile', [`${tiles}/gdal.mvt`], async () => {
   await firefox.until("document.querySelector('.paper')?.dataset.state === 'drawn'");
   const facts = await firefox.value(textOf('.facts'));
   const [[r, g, b], hole] = await Promise.all([[2400, 1000], [2700, 1300]].map(([x, y]) => firefox.value(colourAt(x / 4096, y / 4096))));
   return same([facts, g > r && g > b, hole[3]], ['499 bytes, 3 layers, 7 features, 30 positions.', true, 0]);
 });
 
-await check('a broken tile', [`${tiles}/broken/22-FirstRing.mvt`], async () => {
+await opened('a broken tile', [`${tiles}/broken/22-FirstRing.mvt`], async () => {
   const line = await firefox.value(textOf('.fault code'));
   const marked = (await firefox.value(texts('.hex td:nth-child(2) mark'))).join(' ');
   return same([line, marked], ['layer 0 feature 0 at 8: 22 FirstRing', '0F']);
 });
 
-await check('a compressed tile', [`${tiles}/broken/25-TooLarge.mvt.gz`], async () => {
+await opened('a compressed tile', [`${tiles}/broken/25-TooLarge.mvt.gz`], async () => {
   return (await firefox.value(textOf('.fault code'))).endsWith('25 TooLarge');
 });
 
-await check('several tiles', [`${tiles}/gdal.mvt`, `${tiles}/broken/22-FirstRing.mvt`, `${tiles}/postgis.mvt`], async () => {
+await opened('several tiles', [`${tiles}/gdal.mvt`, `${tiles}/broken/22-FirstRing.mvt`, `${tiles}/postgis.mvt`], async () => {
   const title = await firefox.value(textOf('#list h2'));
   await firefox.value("document.querySelectorAll('#list tbody button')[2].click()");
   await firefox.until("document.querySelector('.paper')?.dataset.state === 'drawn' && !document.body.classList.contains('busy')");
   return same([title, await firefox.value(textOf('#tile h2'))], ['3 files: 2 accepted, 1 refused', 'postgis.mvt']);
 });
 
-/** One check with a server of its own, which is ended afterwards. */
+/** A test with a server of its own, which is ended afterwards. */
 async function served(name, words, holds) {
-  await counts.check(name, async () => {
-    const serving = await Serving.start(words);
+  await check(name, async () => {
+    const given = await Serving.start(words);
     try {
-      return await holds(serving);
+      return await holds(given);
     } finally {
-      await serving.end();
+      await given.end();
     }
-  });
+  }, wants);
 }
 
 await served('a store', [`${stores}/town.mbtiles`, '5/17/11'], async (given) => {
@@ -165,7 +159,6 @@ await served('a store', [`${stores}/town.mbtiles`, '5/17/11'], async (given) => 
     await shown(name);
     seen.push(name);
   }
-  writeFileSync(join(folder, 'firefox-store.png'), await firefox.screenshot());
   return same(seen, ['layer 0 feature 0 at 8: 22 FirstRing', '5/18/11', '4/9/5', '5/17/11']);
 });
 
@@ -183,5 +176,5 @@ await served('the page and its workers reach its own server alone', [], async (o
   return same(got, ['reached', 'nothing']);
 });
 
-await firefox.close();
-counts.end();
+if (program !== undefined) await firefox.close();
+await serving.end();

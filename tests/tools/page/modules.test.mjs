@@ -1,7 +1,6 @@
 // The page's own modules, those that want no codec. Expected values are by hand.
 import { deflateSync, gzipSync } from 'node:zlib';
 import { csvOf } from '../../../tools/mvt_tools/page/src/csv.js';
-import { firstDifference } from '../../../tools/mvt_tools/page/src/differ.js';
 import { FeatureTable } from '../../../tools/mvt_tools/page/src/features.js';
 import { packing, prepared } from '../../../tools/mvt_tools/page/src/files.js';
 import { floatText, shortFloat } from '../../../tools/mvt_tools/page/src/floats.js';
@@ -23,14 +22,11 @@ import { styled } from '../../../tools/mvt_tools/page/src/styled.js';
 import { WAYS, beyondOf, placeOf, verdictOfRow, wayFrom, wayOfKey } from '../../../tools/mvt_tools/page/src/stored.js';
 import { grouped, shortSize } from '../../../tools/mvt_tools/page/src/text.js';
 import { WHOLE, moved, transformOf, viewOf, zoomed } from '../../../tools/mvt_tools/page/src/view.js';
-import { Counts } from './counts.mjs';
+import { check, is } from './checks.mjs';
 import { withElements } from './elements.mjs';
 import { handMade } from './hand.mjs';
 
 withElements();
-const counts = new Counts();
-const is = (name, got, wanted) =>
-  counts.check(name, () => JSON.stringify(got) === JSON.stringify(wanted) || `${JSON.stringify(got)}, wanted ${JSON.stringify(wanted)}`);
 
 // ---- pasted bytes
 
@@ -85,7 +81,7 @@ await is('a broken tile is a tile', sayLookalike(null, 'a.mvt'), null);
 await is('brotli by its name', sayLookalike(null, '1451.pbf.br')?.name, 'brotli');
 await is('what the library sees is more than a name', sayLookalike(looks(LOOKALIKE.PlainText), 'a.br').name, 'text');
 for (const kind of ['Pmtiles', 'Mbtiles', 'Sqlite']) {
-  await counts.check(`of a store it is said what to do: ${kind}`, () => sayLookalike(looks(LOOKALIKE[kind]), 'a').sentence.includes('`mvt-page` with the file’s name opens it'));
+  await check(`of a store it is said what to do: ${kind}`, () => sayLookalike(looks(LOOKALIKE[kind]), 'a').sentence.includes('`mvt-page` with the file’s name opens it'));
 }
 
 // ---- several files, judged by one question
@@ -119,7 +115,7 @@ const upwards = (a, b) => a - b;
 await is('sorted in steps', await sortedInSteps(scattered, upwards), [...scattered].sort(upwards));
 await is('sorted in one step, and nothing', [await sortedInSteps([3, 1, 2], upwards), await sortedInSteps([], upwards)], [[1, 2, 3], []]);
 await is('equal ones stay in order', (await sortedInSteps(scattered, (a, b) => (a % 3) - (b % 3))).slice(0, 3), scattered.filter((each) => each % 3 === 0).slice(0, 3));
-await counts.check('sorting is given up', async () => {
+await check('sorting is given up', async () => {
   let asked = 0;
   return (await sortedInSteps(scattered, upwards, () => (asked += 1) < 3)) === null && asked === 3;
 });
@@ -128,7 +124,7 @@ await is('groups', [1, 1234, 67108864].map(grouped), ['1', '1,234', '67,108,864'
 await is('JSON keeps its digits', laidOut('{"id":18446744073709551615,"a":["b, {c","\\""]}'), '{"id": 18446744073709551615, "a": ["b, {c", "\\""]}');
 const long = `[${'"abcdefghij",'.repeat(20)}[]]`;
 await is('long JSON stays what it was', JSON.parse(laidOut(long)), JSON.parse(long));
-await counts.check('long JSON gets lines', () => laidOut(long).split('\n').length === 23);
+await check('long JSON gets lines', () => laidOut(long).split('\n').length === 23);
 
 const json = new JsonIndex(new TextEncoder().encode('{"layers":[{"extent":4096,"features":[{"a":"{[\\"","g":{"points":[[1,2]]}},{"a":{}}],"name":"x"},{"foreign":{"length":4,"version":1}}]}'));
 await is('the layers of JSON', json.layers(0, 9), [{ json: '{"extent":4096,"features":[…],"name":"x"}', features: 2 }, { json: '{"foreign":{"length":4,"version":1}}', features: 0 }]);
@@ -199,28 +195,12 @@ await is('cells', table.some(0, 9).map((row) => row.cells), [['wood', '0.1'], ['
 await is('a filter by value', [table.filter('PATH'), table.some(0, 9).map((row) => row.index), table.rowOf(1), table.rowOf(0)], [1, [1], 0, -1]);
 await is('a filter by id', [table.filter('7'), table.filter('polyg'), table.filter('')], [1, 1, 2]);
 
-// ---- what differs from the canonical form; tiles by hand: a layer with version, name, and a feature
-
-const layer = (...fields) => Uint8Array.of(0x1a, fields.flat().length, ...fields.flat());
-const [version, name, feature] = [[0x78, 2], [0x0a, 1, 0x61], (type) => [0x12, 2, 0x18, type]];
-const differ = (a, b) => {
-  const found = firstDifference(a, b);
-  return found && [found.at, found.trail.map((step) => step.name).join('/'), /version|name|type|missing|bytes/.exec(found.said)?.[0]];
-};
-await is('nothing differs', differ(layer(version, name), layer(version, name)), null);
-await is('another order', differ(layer(name, version), layer(version, name)), [2, 'layer/name', 'name']);
-await is('another value', differ(layer(version, name, feature(1)), layer(version, name, feature(2))), [9, 'layer/feature/type', 'type']);
-await is('a field too few', differ(layer(version), layer(version, name))?.slice(0, 2), [3, 'layer']);
-await is('an unknown field', [firstDifference(layer([0x30, 1], version), layer(version)), firstDifference(layer([0x30, 1]), layer())].map((found) => found.said),
-  ['Here stands the unknown field 6, and in the canonical form the field version (15).', 'Here stands the unknown field 6, and the canonical form has nothing more there.']);
-await is('a longer spelling', differ(Uint8Array.of(0x1a, 0x82, 0, 0x78, 2), layer(version)), [0, 'layer', 'bytes']);
-
 // ---- views
 
 await is('zoom keeps the point under the pointer', zoomed(WHOLE, 2, 0.25, 1), { x: 0.125, y: 0.5, size: 0.5 });
 await is('a move', moved({ x: 0, y: 0, size: 0.5 }, 0.5, -1), { x: 0.25, y: -0.5, size: 0.5 });
 await is('a frame of the whole under a view of its middle', transformOf(WHOLE, { x: 0.25, y: 0.25, size: 0.5 }), 'translate(-50%, -50%) scale(2)');
-await counts.check('a view of a box holds it', () => {
+await check('a view of a box holds it', () => {
   const { x, y, size } = viewOf([0.1, 0.2, 0.3, 0.9]);
   return x < 0.1 && y < 0.2 && x + size > 0.3 && y + size > 0.9;
 });
@@ -243,7 +223,7 @@ for (const [name, { paper, layers }] of Object.entries({ LIGHT, DARK })) {
   await is(`${name}: 3:1 to the paper`, layers.filter((colour) => contrast(colour, paper) < 3), []);
   const labs = layers.map(oklab);
   const pairs = labs.flatMap((a, index) => labs.slice(index + 1).map((b) => Math.hypot(...a.map((part, axis) => part - b[axis]))));
-  await counts.check(`${name}: told apart`, () => Math.min(...pairs) > 0.15 || String(Math.min(...pairs)));
+  await check(`${name}: told apart`, () => Math.min(...pairs) > 0.15 || String(Math.min(...pairs)));
 }
 
 // ---- the shape of a faulty feature
@@ -308,4 +288,3 @@ await is('a map of one tile', boxOf([[5, 9]]), { left: 5, top: 9, shift: 0, coun
 await is('a map of a few', boxOf([[5, 9], [7, 8], [68, 8]]), { left: 5, top: 8, shift: 0, count: 64 });
 await is('a map of many has squares of several', boxOf([[0, 0], [64, 0]]), { left: 0, top: 0, shift: 1, count: 33 });
 
-counts.end();

@@ -1,25 +1,13 @@
-// A server that ends while the page is open, calls that are given up, many tabs, and tiles that are too dear: life.mjs CHROMIUM
-// FOLDER
-import { Counts } from './counts.mjs';
-import { pointTile } from './large.mjs';
-import { OnPage, clickNamed, drawn, look, painted, same, textOf, tiles } from './onpage.mjs';
-import { Serving } from './serving.mjs';
+// A server that ends while the page is open, calls that are given up, many tabs, and tiles that are too dear, with a server for
+// each test.
+import { pointTile, varint } from './large.mjs';
+import { clickNamed, drawn, look, painted, same, textOf, tiles, withServer } from './onpage.mjs';
 
-const [chromium, folder] = process.argv.slice(2);
-const counts = new Counts();
 const gdal = `${tiles}/gdal.mvt`;
 const busy = "document.body.classList.contains('busy')";
 const gone = textOf('#gone');
 
-/** A check with a server of its own, which may end. */
-async function served(name, holds, before = []) {
-  const serving = await Serving.start([], before);
-  const on = new OnPage([chromium, serving.address, folder]);
-  await on.check(name, {}, (page) => holds(page, serving, on));
-  await on.browser.close();
-  await serving.end();
-  counts.add(on.counts);
-}
+const served = (name, holds, before = []) => withServer(name, [], {}, holds, before);
 
 await served('the server ends: it is told, and what is drawn stays', async (page, serving) => {
   await look(page, [gdal]);
@@ -63,9 +51,8 @@ await served('a call that is given up: the page goes on, and so does the server'
     await page.value("document.querySelector('#working button').click()");
   }
   await page.until("document.querySelector('#tile .verdict')?.textContent.startsWith('Stopped')");
-  const began = Date.now();
-  await look(page, [gdal]);
-  return same([await page.value(textOf('#tile h2')), Date.now() - began < 30_000, await page.value(gone)], ['gdal.mvt', true, '']);
+  await look(page, [gdal], 60);
+  return same([await page.value(textOf('#tile h2')), await page.value(gone)], ['gdal.mvt', '']);
 });
 
 await served('eight tabs with long calls: each gets its answer', async (page, serving, on) => {
@@ -87,8 +74,7 @@ await served('eight tabs with long calls: each gets its answer', async (page, se
 function fullTile(featureOf) {
   const count = Math.floor(((1 << 26) - 10) / featureOf(0).length);
   const tile = Buffer.alloc(10 + count * featureOf(0).length);
-  const length = tile.length - 5;
-  tile.set([0x1a, ...[0, 7, 14].map((shift) => ((length >> shift) & 127) | 128), length >> 21, 0x78, 2, 0x0a, 1, 0x61]);
+  tile.set([0x1a, ...varint(tile.length - 5), 0x78, 2, 0x0a, 1, 0x61]);
   for (let index = 0; index < count; index += 1) tile.set(featureOf(index), 10 + index * featureOf(0).length);
   return tile;
 }
@@ -115,4 +101,3 @@ await served('64 MiB of points under 4 GiB: all is told', async (page, serving, 
   return same([await page.value(textOf('.facts')), (await page.value(textOf('.canonical'))).slice(0, 2)], ['67 MB, 1 layer, 7,456,539 features, 7,456,539 positions.', 'No']);
 }, small);
 
-counts.end();

@@ -1,4 +1,4 @@
-// The page in headless Chromium: pages.mjs CHROMIUM ADDRESS FOLDER. The folder is for what it makes.
+// The page in headless Chromium.
 import { existsSync, readFileSync } from 'node:fs';
 import { join } from 'node:path';
 import { deflateSync, gzipSync } from 'node:zlib';
@@ -6,8 +6,8 @@ import { Codec } from '../../../tools/mvt_tools/page/src/codec.js';
 import { largeTile } from './large.mjs';
 import { OnPage, click, clickLabelled, clickNamed, colourAt, drawn, look, painted, same, spotOf, textOf, texts, tiles } from './onpage.mjs';
 
-const on = new OnPage(process.argv.slice(2));
-const { browser, folder } = on;
+const on = new OnPage();
+const { folder } = on;
 const made = on.made.bind(on);
 const onPage = on.check.bind(on);
 const saved = on.saved.bind(on);
@@ -103,6 +103,26 @@ await onPage('the JSON unfolds, and is that of the library', {}, async (page) =>
   await page.until("document.querySelector('.json details details pre')");
   const shown = JSON.parse(await page.value(textOf('.json details details pre')));
   return same(shown, JSON.parse(readFileSync(`${tiles}/postgis.json`, 'utf8')).layers[1].features[0]);
+});
+
+await onPage('a tile is mended, shown before and after, and saved', {}, async (page) => {
+  await look(page, [`${tiles}/broken/22-FirstRing.mvt`]);
+  await page.value(clickNamed('Mend'));
+  await page.until("document.querySelector('.mending .canonical')?.textContent.startsWith('In canonical form')");
+  const told = [await page.value(textOf('.mending h3')), (await page.value(texts('.mending .shape'))).length, (await page.value(textOf('.mending .verdict.accepted'))).slice(0, 8)];
+  const bytes = await saved(page, 'Save the mended tile', '22-FirstRing.mended.mvt');
+  // The ring (20, 34), (3, 6), (8, 12).
+  return same([...told, bytes.toString('hex')], ['Mended: 1 change', 2, 'Accepted', '1a1778020a0161120d180322090928441221370a0c0f288020']);
+});
+
+await onPage('a tile that breaks another rule too is not mended, and others have no button for it', {}, async (page) => {
+  const zero = readFileSync(`${tiles}/broken/20-ZeroSegment.mvt`);
+  await look(page, [made('two-faults.mvt', Buffer.concat([zero, Buffer.of(0x1a, 2, 0x78, 2)]))]);
+  await page.value(clickNamed('Mend'));
+  await page.until("document.querySelector('.mending [role=status]').textContent.startsWith('It can')");
+  const why = await page.value(textOf('.mending [role=status]'));
+  await look(page, [`${tiles}/broken/10-NoName.mvt`]);
+  return same([why, await page.value(textOf('.mending'))], ['It can’t be mended: it breaks another rule too.', '']);
 });
 
 await onPage('buttons save the canonical bytes and the JSON', {}, async (page) => {
@@ -353,7 +373,7 @@ await onPage('by keyboard: an example is opened, and its heading has the focus',
     await page.press('Tab');
     seen.push(await page.value('document.activeElement.className || document.activeElement.tagName'));
   }
-  return same(seen, ['hex', 'INPUT', 'BUTTON']);
+  return same(seen, ['BUTTON', 'hex', 'INPUT']);
 });
 
 for (const [name, files] of [['a good tile', ['gdal.mvt']], ['a broken tile', ['broken/20-ZeroSegment.mvt']], ['several', ['gdal.mvt', 'broken/14-KeyIndex.mvt']]]) {
@@ -383,7 +403,7 @@ await onPage('dark where the person has it so', { dark: true }, async (page) => 
 
 await onPage('nothing is asked but of its own server', {}, async (page) => {
   const asked = [];
-  browser.listen(({ method, params }) => method === 'Network.requestWillBeSent' && asked.push(params.request.url));
+  on.browser.listen(({ method, params }) => method === 'Network.requestWillBeSent' && asked.push(params.request.url));
   await page.send('Network.enable');
   await page.send('Page.reload');
   await page.until("document.body?.dataset.ready === 'yes'");

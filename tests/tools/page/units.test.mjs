@@ -1,19 +1,16 @@
-// What the page shows of the faults of tiles: units.mjs ADDRESS FILE.. What the library says of tiles is compared elsewhere
-// (agree.mjs, test_places.py).
+// What the page shows of the faults of tiles: what the program says of tiles is compared elsewhere
+// (agree.test.mjs, test_places.py).
 import { readFileSync } from 'node:fs';
-import { basename } from 'node:path';
 import { Codec } from '../../../tools/mvt_tools/page/src/codec.js';
 import { CAUSE } from '../../../tools/mvt_tools/page/src/layout.js';
-import { varint } from '../../../tools/mvt_tools/page/src/fields.js';
 import { BRIEF, sayHolders, sayPlace } from '../../../tools/mvt_tools/page/src/words.js';
-import { Counts } from './counts.mjs';
+import { casesByFile } from './cases.mjs';
+import { check, is, same } from './checks.mjs';
 import { withElements } from './elements.mjs';
+import { Serving } from './serving.mjs';
 
 withElements();
-const counts = new Counts();
 const top = new URL('../../../', import.meta.url).pathname;
-const is = (name, got, wanted) =>
-  counts.check(name, () => JSON.stringify(got) === JSON.stringify(wanted) || `${JSON.stringify(got)}, wanted ${JSON.stringify(wanted)}`);
 
 // The bytes of each fault, by hand from the tiles' bytes: the integer of an index, or the field.
 const MARKS = {
@@ -25,8 +22,8 @@ const MARKS = {
   '19-Parameters': [13, 14], '20-ZeroSegment': [17, 18], '21-CoordinateRange': [20, 21], '22-FirstRing': [21, 22],
   '23-EndsEarly': [16, 16], '24-RepeatedName': [23, 26], '26-ParameterRange': [14, 19],
 };
-const [address, ...files] = process.argv.slice(2);
-const codec = new Codec(address);
+const serving = await Serving.start();
+const codec = new Codec(serving.address);
 for (const [name, mark] of Object.entries(MARKS)) {
   const { place } = await codec.open(readFileSync(`${top}fixtures/tiles/broken/${name}.mvt`)).explain();
   await is(`the mark of ${name}`, [place.start, place.end], mark);
@@ -34,10 +31,17 @@ for (const [name, mark] of Object.entries(MARKS)) {
 await is('an accepted tile has no place', await codec.open(readFileSync(`${top}fixtures/tiles/gdal.mvt`)).explain().then(({ status, place }) => [status, place]), [0, undefined]);
 
 // What is shown of any refused tile fits what the library says of its fault.
-for (const file of files) {
-  const bytes = readFileSync(file);
+for (const [file, cases] of casesByFile()) {
+  await check(`the places in ${file}`, async () => {
+    const wrong = [];
+    for (const { name, tile, said } of cases) if (said.fault && !(await fitsIn(tile))) wrong.push(name);
+    return same(wrong, []);
+  });
+}
+
+async function fitsIn(bytes) {
   const { fault } = await codec.open(bytes).judge();
-  if (fault) await counts.check(`the place in ${basename(file)}`, async () => fits(bytes, fault, await codec.open(bytes).explain(), await aroundOf(bytes)) || JSON.stringify(fault));
+  return fits(bytes, fault, await codec.open(bytes).explain(), await aroundOf(bytes));
 }
 
 async function aroundOf(bytes) {
@@ -49,14 +53,19 @@ function fits(bytes, fault, told, { integers }) {
   const isSame = JSON.stringify(told.fault) === JSON.stringify(fault);
   const isInside = start >= 0 && start <= end && end <= bytes.length;
   // The integer that is shown is spelled by the bytes of the place.
-  const isThere = integers === null || integers.value === null || varint(bytes, start, end).value === integers.value;
+  const isThere = integers === null || integers.value === null || numberOf(bytes.subarray(start, end)) === integers.value;
   const said = [sentence, sayPlace({ start, end, integers }), ...sayHolders(fault, told.place)].join(' ');
   return isSame && isInside && isThere && !/undefined|null|NaN/.test(said);
 }
 
+/** The number that bytes spell; above 2^53 it is rounded. */
+function numberOf(spelling) {
+  return spelling.reduceRight((number, byte) => number * 128 + (byte & 127), 0);
+}
+
 const rules = readFileSync(`${top}docs/FORMAT.md`, 'utf8').matchAll(/^\| (\d+) \| (\w+) \|/gm);
 for (const [, cause, name] of rules) {
-  await counts.check(`${name} has few words`, () => BRIEF[cause]?.length < 50);
+  await check(`${name} has few words`, () => BRIEF[cause]?.length < 50);
   await is(`${name} has its number`, CAUSE[name], Number(cause));
 }
 const [list, index, count] = ['tags', 3, 4];
@@ -64,4 +73,4 @@ const places = [[4, 6, null], [4, 5, null], [16, 16, null], [4, 5, { list, index
 await is('places in words', places.map(([start, end, integers]) => sayPlace({ start, end, integers })), [
   'Marked: bytes 4 to 5.', 'Marked: byte 4.', 'The place is before byte 16 (0x10).',
   'Marked: byte 4: the tag of index 3 in the tags, counted from 0, which is 1,234.', 'Marked: byte 4. In all: 4 tags.']);
-counts.end();
+await serving.end();
