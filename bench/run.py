@@ -8,10 +8,10 @@ old over new.
 """
 
 import os
+import resource
 import statistics
 import subprocess
 import sys
-import time
 from pathlib import Path
 
 TURNS = 7
@@ -22,6 +22,12 @@ def read_workloads(path: Path) -> list[tuple[str, str, list[str]]]:
     return [(name, crate, words) for name, crate, *words in lines]
 
 
+def of_children() -> float:
+    """The seconds of a processor that the programs took that have ended."""
+    used = resource.getrusage(resource.RUSAGE_CHILDREN)
+    return used.ru_utime + used.ru_stime
+
+
 def run(checkout: Path, crate: str, words: list[str], seed: str) -> tuple[float, bytes]:
     words = [seed if word == "SEED" else word for word in words]
     folder = checkout / "bench"
@@ -30,11 +36,11 @@ def run(checkout: Path, crate: str, words: list[str], seed: str) -> tuple[float,
         source = folder / words.pop()[1:]
     program = checkout / "crates" / crate / "out" / crate
     with source.open("rb") as stdin:
-        began = time.perf_counter()
+        began = of_children()
         done = subprocess.run(
             [program, *words], cwd=folder, stdin=stdin, stdout=subprocess.PIPE, check=True
         )
-        return time.perf_counter() - began, done.stdout
+        return of_children() - began, done.stdout
 
 
 def measure(checkouts: list[Path], crate: str, words: list[str], seed: str) -> list[float]:

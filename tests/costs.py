@@ -2,8 +2,8 @@
 """What the gate's proofs cost, from nothing, as a table in Markdown: costs.py FOLDER [WORD..]
 
 Clones this repository's HEAD into FOLDER and runs `rt ci` there, with these words (--anew, where this machine has proved the
-same files before). Prints for each crate after how many minutes it was proved, its tests had passed and its wrong bodies were
-refused, and then the minutes of processors of the whole. What `rt ci` said is kept in FOLDER/said, each line behind the
+same files before). Prints for each crate after how many minutes it was proved, its tests were, and its wrong bodies began to be
+tried, and then the minutes of processors of the whole. What `rt ci` said is kept in FOLDER/said, each line behind the
 seconds since it began. The other parts of .ci/run say themselves what they took.
 """
 
@@ -16,9 +16,9 @@ from pathlib import Path
 
 TOP = Path(__file__).resolve().parent.parent
 DONE = {
-    "proved": re.compile(r"^(\d+\.\d) rt: (mvt_\w+) (?:proved|is kept).*$", re.M),
-    "tests": re.compile(r"^(\d+\.\d) .*\b(mvt_\w+)\b.*\btests? passed.*$", re.M),
-    "refused": re.compile(r"^(\d+\.\d) .*\b(mvt_\w+)\b.*\brefused.*$", re.M),
+    "proved": re.compile(r"^(\d+\.\d) rt: (mvt_\w+) (?:proved|is kept)", re.M),
+    "tests proved": re.compile(r"^(\d+\.\d) rt: (mvt_\w+): its tests are proved", re.M),
+    "wrong bodies from": re.compile(r"^(\d+\.\d) rt: (mvt_\w+): trying its must-fail edits", re.M),
 }
 
 
@@ -43,10 +43,11 @@ def main() -> None:
     text = said(root, sys.argv[2:])
     (root / "said").write_text(text, encoding="utf-8")
     last = {what: {crate: float(at) / 60 for at, crate in form.findall(text)} for what, form in DONE.items()}
-    print("| Crate | Proved | Tests | Wrong bodies |\n|---|---|---|---|")
+    print("| Crate | " + " | ".join(DONE) + " |\n|---|---|---|---|")
     for crate in sorted(last["proved"], key=last["proved"].__getitem__):
         print(f"| {crate} | " + " | ".join(f"{last[what][crate]:.0f}" if crate in last[what] else "" for what in DONE) + " |")
-    print("\n" + text.splitlines()[-1])
+    status, used = re.findall(r"status (\d+), (\d+) of processors", text)[-1]
+    print(f"\nstatus {status}, {int(used) / 60:.0f} minutes of processors")
 
 
 main()
