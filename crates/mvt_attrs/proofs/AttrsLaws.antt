@@ -16,7 +16,7 @@ use Rattle.mvt_attrs.specs.Pools.{key_pool, value_pool}
 use Rattle.mvt_attrs.specs.Tags.{Resolved}
 use Rattle.mvt_attrs.specs.Values.{equal_values}
 use Rattle.mvt_attrs.specs.declared.value.Attribute.{Attribute}
-use Rattle.mvt_attrs.specs.declared.value.Value.{Value}
+use Rattle.mvt_attrs.specs.Values.{Value}
 
 pub attributes_or_fault_once : (keys : List (List ℕ)) (values : List Value) (tags : List ℕ) (attributes others : List Attribute) →
     Resolved keys values tags attributes → Resolved keys values tags others → attributes ≡ others

@@ -1,6 +1,6 @@
 -- The tests of equality decide it.
 use Rattle.std.proofs.Common.{◌≡◌, Decides, rules}
-use Rattle.mvt_attrs.specs.declared.value.Value.{Value}
+use Rattle.mvt_attrs.specs.Values.{Value}
 use Rattle.mvt_attrs.specs.Values.{equal_values}
 
 -- the test of the definitions

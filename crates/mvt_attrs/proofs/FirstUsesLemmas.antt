@@ -5,7 +5,7 @@ use Rattle.std.proofs.lemmas.Option.{slice_get_within, get_or_from_slice_get, sl
 use Rattle.mvt_base.proofs.ListLemmas.{front_more}
 use Rattle.mvt_base.specs.Related.{AreRelated}
 use Rattle.mvt_attrs.specs.declared.value.Attribute.{Attribute}
-use Rattle.mvt_attrs.specs.declared.value.Value.{Value}
+use Rattle.mvt_attrs.specs.Values.{Value}
 use Rattle.mvt_attrs.specs.FirstUse.{AreDistinct}
 use Rattle.mvt_attrs.specs.FirstUses.{AreFirstUses, AreInOrder, IsUseOf}
 use Rattle.mvt_attrs.specs.Pools.{key_pool, value_pool}

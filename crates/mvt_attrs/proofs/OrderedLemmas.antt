@@ -4,7 +4,7 @@ use Rattle.std.specs.Option.{option_or}
 use Rattle.mvt_base.specs.Rules.{AreOrdered, IsLeast, first}
 use Rattle.mvt_base.proofs.RuleLemmas.{first-rows, option_or-right}
 use Rattle.mvt_base.proofs.OrderLemmas.{first_is_least, least_is_first, when_ordered, rows_ordered, each_ordered}
-use Rattle.mvt_attrs.specs.declared.value.Value.{Value}
+use Rattle.mvt_attrs.specs.Values.{Value}
 use Rattle.mvt_attrs.specs.declared.resolving.TagCause.{TagCause}
 use Rattle.mvt_attrs.specs.TagRules.{count_rules, rows_of_pair, rules_of_pair, pair_rules, pairs_of, tag_rules, tag_fault}
 

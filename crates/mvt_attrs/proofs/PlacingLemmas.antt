@@ -5,7 +5,7 @@ use Rattle.std.proofs.lemmas.Option.{slice_get_within, get_or_from_slice_get}
 use Rattle.mvt_base.specs.declared.TheConstants.{LIMIT}
 use Rattle.mvt_base.proofs.ListLemmas.{front_more}
 use Rattle.mvt_attrs.specs.Placed.{IsFullAt}
-use Rattle.mvt_attrs.specs.declared.value.Value.{Value}
+use Rattle.mvt_attrs.specs.Values.{Value}
 use Rattle.mvt_attrs.specs.declared.value.Attribute.{Attribute}
 use Rattle.mvt_attrs.specs.FirstUse.{first_use, AreDistinct}
 use Rattle.mvt_attrs.specs.Pools.{key_pool, value_pool}

@@ -11,7 +11,7 @@ use Rattle.mvt_base.specs.Rules.{under, each, first}
 use Rattle.mvt_base.proofs.RuleLemmas.{first-append, first-under, option_or-nones, option_or-none}
 use Rattle.mvt_base.proofs.TableLemmas.{when_none}
 use Rattle.mvt_base.proofs.ListLemmas.{related-append, related_once}
-use Rattle.mvt_attrs.specs.declared.value.Value.{Value}
+use Rattle.mvt_attrs.specs.Values.{Value}
 use Rattle.mvt_attrs.specs.declared.value.Attribute.{Attribute}
 use Rattle.mvt_attrs.specs.Tags.{Names, HasDistinctKeys, Resolved, has_key}
 use Rattle.mvt_attrs.specs.TagRules.{pairs_of, name_one_key, rules_of_pair, tag_fault}

@@ -10,7 +10,7 @@ use Rattle.mvt_base.specs.Related.{AreRelated}
 use Rattle.mvt_base.specs.Rules.{Rules, when, each, first}
 use Rattle.mvt_base.proofs.RuleLemmas.{first-rows, first-when, first-when_not, option_or-none, option_or-some, option_or-right, each_more, each_stops}
 use Rattle.mvt_base.proofs.ListLemmas.{related-append}
-use Rattle.mvt_attrs.specs.declared.value.Value.{Value}
+use Rattle.mvt_attrs.specs.Values.{Value}
 use Rattle.mvt_attrs.specs.declared.value.Attribute.{Attribute}
 use Rattle.mvt_attrs.specs.declared.resolving.TagCause.{TagCause}
 use Rattle.mvt_attrs.specs.declared.resolving.TagCause.TheVariants.{OddTags, KeyIndex, ValueIndex, RepeatedKey}

@@ -1,13 +1,13 @@
 -- Entries that are known by their places, and those of them that are used.
-use Rattle.std.proofs.Common.{◌≡◌, ◌≢◌, ◌⊎◌, ℕ, zero, suc, ◌+◌, ◌-◌, ◌<◌, ◌≤◌, Bool, List, [], ◌∷◌, ◌++◌, length, map, set, get_or, take, drop, replicate, Some, Contains, Decides, bytes_eq, slice_get, slice_index, inl, inr, refl, sym, ap, ap₂, subst, ◌∙◌, ⊎_elim, arith, append_assoc, append-nil}
+use Rattle.std.proofs.Common.{◌≡◌, ◌≢◌, ◌⊎◌, ℕ, zero, suc, ◌+◌, ◌-◌, ◌<◌, ◌≤◌, Bool, List, [], ◌∷◌, ◌++◌, length, map, set, get_or, drop, replicate, Some, Contains, Decides, bytes_eq, slice_get, slice_index, inl, inr, refl, sym, ap, ap₂, subst, ◌∙◌, ⊎_elim, arith, append_assoc, append-nil}
 use Rattle.std.specs.Option.{option_to_list}
 use Rattle.std.proofs.lemmas.Bool.{cases_eq, cases_lt}
-use Rattle.std.proofs.lemmas.List.{get_or_default, get_or_past, get_or-set_same, get_or-set_other, get_or_append_left, length_push, length-set, length-take, get_or-take, length-replicate, get_or-replicate, map-append, nil_from_length}
+use Rattle.std.proofs.lemmas.List.{get_or_default, get_or_past, get_or-set_same, get_or-set_other, get_or_append_left, length_push, length-set, length-replicate, get_or-replicate, map-append, nil_from_length}
 use Rattle.std.proofs.lemmas.Option.{slice_get_within, get_or_from_slice_get, slice_get-get_or}
 use Rattle.std.proofs.Math.Seq.{get_or-append_seam}
 use Rattle.std.proofs.lemmas.Slice.Eq.{bytes_eq-Decides}
 use Rattle.mvt_attrs.specs.declared.value.Attribute.{Attribute}
-use Rattle.mvt_attrs.specs.declared.value.Value.{Value}
+use Rattle.mvt_attrs.specs.Values.{Value}
 use Rattle.mvt_attrs.specs.FirstUse.{AreDistinct, first_use}
 use Rattle.mvt_attrs.specs.Inner.Places.{AreFirstMarks, AreIndices}
 use Rattle.mvt_attrs.specs.Pools.{key_pool, value_pool}
@@ -74,47 +74,7 @@ module _ {A : Type 0} (distinct : List A) (places marks : List ℕ) (used before
         recorded = λ i x at. let nothing = ap (λ us. slice_get us i) nothing_used in cc;
       })
 
--- entries that stand once each, of which the first are used
-slice_get_front : {A : Type 0} → (n : ℕ) (xs : List A) (i : ℕ) → i < n → slice_get (take n xs) i ≡ slice_get xs i
-slice_get_front zero xs i lt = absurd (omega arith)
-slice_get_front (suc n) [] i lt = refl
-slice_get_front (suc n) (x ∷ xs) zero lt = refl
-slice_get_front (suc n) (x ∷ xs) (suc i) lt = slice_get_front n xs i (omega arith)
-
-distinct_front : {A : Type 0} → (n : ℕ) (xs : List A) → AreDistinct xs → AreDistinct (take n xs)
-distinct_front n xs apart i j d before within same =
-    let size = length-take n xs in
-    let least : (j < n) × (j < length xs) = (omega (arith, size), omega (arith, size)) in
-    apart i j d before least.1
-    (sym (get_or-take n xs i d (omega (arith, least.0))) ∙ same ∙ get_or-take n xs j d least.0)
-
-pub uses_first : {A : Type 0} → (after entries : List A) (indices marks : List ℕ) (copies : List A) (used : ℕ) → after ≡ entries
-    → AreDistinct entries → AreIndices indices (length entries) → AreFirstMarks marks (length entries) used
-    → copies ≡ take used entries → AreUses after indices marks copies entries
-uses_first after entries indices marks copies used is apart are_indices are_marks first =
-    subst (λ ds. AreUses ds indices marks copies entries) (sym is)
-    (subst (λ cs. AreUses entries indices marks cs entries) (sym first) (record {
-      apart = apart;
-      count = are_indices.count;
-      placed = λ i x at. ap (slice_get entries) (are_indices.here i (slice_get_within entries i x at)) ∙ at;
-      room = are_marks.count;
-      marked = λ p i within at.
-          elim (cases_lt p used) [
-            | inl lt ↦ (
-                let same : i ≡ p = omega (arith, are_marks.front p within lt, at) in
-                ap (slice_get (take used entries)) same ∙ slice_get_front used entries p lt)
-            | inr le ↦ absurd (omega (arith, are_marks.rest p le, at))
-          ];
-      once = distinct_front used entries apart;
-      recorded = λ i x at.
-          let size = length-take used entries in
-          let inside = slice_get_within (take used entries) i x at in
-          let lt : i < used = omega (arith, size, inside) in
-          let here : slice_get entries i ≡ Some x = sym (slice_get_front used entries i lt) ∙ at in
-          let mark = are_marks.front i (slice_get_within entries i x here) lt in
-          (i, here, λ none. omega (arith, mark, none));
-    }))
-
+-- marks of the first entries
 pub marks_more : (marks longer : List ℕ) (n used mark : ℕ) → AreFirstMarks marks n used → (n < used → mark ≡ n + 1)
     → (used ≤ n → mark ≡ 0) → longer ≡ marks ++ mark ∷ [] → AreFirstMarks longer (n + 1) used
 marks_more marks longer n used mark so_far is_used is_free grown =
@@ -235,16 +195,6 @@ at_once distinct places marks used [] uses size unused = record {
   no_used = unused refl;
 }
 at_once distinct places marks used (x ∷ entries) uses size unused = uses
-
-pub nil_take : {A : Type 0} → (n : ℕ) (xs : List A) → xs ≡ [] → take n xs ≡ []
-nil_take zero xs none = refl
-nil_take (suc n) xs none = ap (take (suc n)) none
-
-pub first_used : {A : Type 0} → (u : UsedEntries A) (entries : List A) (n : ℕ) → length u.places.items ≡ length entries
-    → u.distinct ≡ entries
-    → u.used.items ≡ take n entries → used_of u ≡ take n entries
-first_used u [] n size same first = all_used u (nil_from_length u.places.items size) ∙ same ∙ sym (nil_take n [] refl)
-first_used u (x ∷ entries) n size same first = used_added u (omega (arith, size)) ∙ first
 
 none_in : {A : Type 0} → (places : List ℕ) (distinct used : List A) → length distinct ≡ length places → used ≡ []
     → used_in places distinct used ≡ []

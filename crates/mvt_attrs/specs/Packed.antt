@@ -4,7 +4,7 @@ use Rattle.mvt_wire.specs.Packed.{ArePacked}
 use Rattle.mvt_wire.specs.Spelling.{short_numbers}
 use Rattle.mvt_attrs.specs.declared.packed_tags.PackedTags.{PackedTags}
 use Rattle.mvt_attrs.specs.declared.packed_tags.PackedTags.TheVariants.{Good, Stopped, Broken}
-use Rattle.mvt_attrs.specs.declared.value.Value.{Value}
+use Rattle.mvt_attrs.specs.Values.{Value}
 use Rattle.mvt_attrs.specs.TagRules.{tag_fault}
 
 -- tags that break no rule, in a layer with these keys and so many values; a visitor was told them; where it is said, their spellings are

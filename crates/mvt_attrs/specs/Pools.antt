@@ -1,6 +1,6 @@
 -- What pools hold once the attributes are placed that a layer's features use (4.4).
 use Rattle.std.specs.Prelude.{ℕ, List, ◌++◌, map, bytes_eq}
-use Rattle.mvt_attrs.specs.declared.value.Value.{Value}
+use Rattle.mvt_attrs.specs.Values.{Value}
 use Rattle.mvt_attrs.specs.declared.value.Attribute.{Attribute}
 use Rattle.mvt_attrs.specs.FirstUse.{first_use}
 use Rattle.mvt_attrs.specs.Values.{equal_values}

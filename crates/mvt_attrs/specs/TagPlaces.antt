@@ -1,7 +1,7 @@
 -- The tags that name attributes in pools: positions (4.4).
 use Rattle.std.specs.Prelude.{ℕ, suc, Bool, List, [], ◌∷◌, Contains, bytes_eq, if◌then◌else◌}
 use Rattle.std.specs.List.{flat_map}
-use Rattle.mvt_attrs.specs.declared.value.Value.{Value}
+use Rattle.mvt_attrs.specs.Values.{Value}
 use Rattle.mvt_attrs.specs.declared.value.Attribute.{Attribute}
 use Rattle.mvt_attrs.specs.Values.{equal_values}
 

@@ -3,7 +3,7 @@
 use Rattle.std.specs.Prelude.{ℕ, ◌+◌, ◌*◌, ◌%◌, ◌==◌, nat_le, Bool, false, ◌||◌, List, [], ◌∷◌, length, Option, Some, None, slice_get, bytes_eq}
 use Rattle.std.specs.List.{list_any}
 use Rattle.mvt_base.specs.Rules.{Rules, when, rows, each, first}
-use Rattle.mvt_attrs.specs.declared.value.Value.{Value}
+use Rattle.mvt_attrs.specs.Values.{Value}
 use Rattle.mvt_attrs.specs.declared.resolving.TagCause.{TagCause}
 use Rattle.mvt_attrs.specs.declared.resolving.TagCause.TheVariants.{OddTags, KeyIndex, ValueIndex, RepeatedKey}
 use Rattle.mvt_attrs.specs.declared.resolving.TagError.{TagError}

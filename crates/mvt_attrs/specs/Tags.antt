@@ -1,7 +1,7 @@
 -- Tags (4.4 Feature Attributes): pairs of an index of a key and an index of a value.
 use Rattle.std.specs.Prelude.{◌≡◌, ◌≢◌, ℕ, ◌+◌, ◌*◌, Bool, List, Some, length, slice_get, slice_index, bytes_eq, AllPairs}
 use Rattle.std.specs.List.{list_any}
-use Rattle.mvt_attrs.specs.declared.value.Value.{Value}
+use Rattle.mvt_attrs.specs.Values.{Value}
 use Rattle.mvt_attrs.specs.declared.value.Attribute.{Attribute}
 
 -- the tags name these attributes, pair by pair and in order

@@ -5,7 +5,7 @@ use Rattle.std.specs.Option.{option_to_list}
 use Rattle.mvt_attrs.specs.declared.used_entries.UsedEntries.{UsedEntries}
 use Rattle.mvt_attrs.specs.declared.used_entries.LayerEntries.{LayerEntries}
 use Rattle.mvt_attrs.specs.declared.value.Attribute.{Attribute}
-use Rattle.mvt_attrs.specs.declared.value.Value.{Value}
+use Rattle.mvt_attrs.specs.Values.{Value}
 use Rattle.mvt_attrs.specs.FirstUse.{AreDistinct}
 use Rattle.mvt_attrs.specs.Placed.{ArePlaced, AreReported, IsFullAt}
 use Rattle.mvt_attrs.specs.Pools.{key_pool, value_pool}

@@ -1,8 +1,12 @@
 -- Values (4.1, message Value): seven kinds, each with values of its own.
-use Rattle.std.specs.Prelude.{Bool, false, not, ◌==◌, ◌≤◌, length, bytes_eq, if◌then◌else◌, ⊤}
+use Rattle.std.specs.Prelude.{Bool, List, ℕ, false, not, ◌==◌, ◌≤◌, length, bytes_eq, if◌then◌else◌, ⊤}
 use Rattle.std.specs.Ordering.{int_eq}
-use Rattle.mvt_attrs.specs.declared.value.Value.{Value}
-use Rattle.mvt_attrs.specs.declared.value.Value.TheVariants.{Text, Float, Double, Int, Uint, Sint, Bool as Truth}
+use Rattle.mvt_attrs.specs.declared.value.ValueOf.{ValueOf}
+use Rattle.mvt_attrs.specs.declared.value.ValueOf.TheVariants.{Text, Float, Double, Int, Uint, Sint, Bool as Truth}
+
+-- a value, whether it keeps its text or is lent it
+abbrev pub Value : Type 0
+Value = ValueOf (List ℕ)
 
 -- the test of equality of values: of one kind, with one content
 abbrev pub equal_values : Value → Value → Bool

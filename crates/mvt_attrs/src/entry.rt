@@ -1,18 +1,18 @@
 //! What a pool can hold.
 ghost use Rattle.std.specs.Prelude.{◌≡◌, ◌↔◌, IfOk, IsTrue, Decides};
 
-use crate::value::Value;
-use mvt_base::Text;
+use crate::text_ref::TextRef;
+use crate::value::ValueOf;
 use std::alloc::{AllocError, Global};
 use std::hash::Hash;
 
 /// A key or a value: two that compare as equal are one.
 pub trait Entry: Ord + Hash + Drop {
-    /// An equal entry, which shares a text's memory.
+    /// An equal entry.
     ///
     /// # Errors
     ///
-    /// As `Text::copy`.
+    /// When memory runs out. An entry whose text is lent needs none.
     fn copied(&self, alloc: Global) -> Result<Self, AllocError>
         ensures { IfOk result (λ copy. copy ≡ self.now) };
 
@@ -27,12 +27,12 @@ pub trait Entry: Ord + Hash + Drop {
     ghost identical: { (x y : Self) → Decides (Self.eq x y) (x ≡ y) };
 }
 
-impl Entry for Text {
+impl Entry for TextRef<'_> {
     ghost use Rattle.std.proofs.Common.{rules};
 
     #[inline(always)]
-    fn copied(&self, alloc: Global) -> Result<Self, AllocError> {
-        self.copy(alloc)
+    fn copied(&self, _: Global) -> Result<Self, AllocError> {
+        Ok(TextRef::of(self.as_str()))
     }
 
     #[inline(always)]
@@ -49,25 +49,25 @@ impl Entry for Text {
     ghost identical = { Prim.search rules };
 }
 
-impl Entry for Value {
+impl Entry for ValueOf<TextRef<'_>> {
     ghost use Rattle.std.proofs.Common.{rules};
 
     #[inline(always)]
-    fn copied(&self, alloc: Global) -> Result<Self, AllocError> {
-        self.copy(alloc)
+    fn copied(&self, _: Global) -> Result<Self, AllocError> {
+        Ok(self.again())
     }
 
     /// Most entries that are passed over are of another kind, or numbers.
     #[inline(always)]
     fn is(&self, other: &Self) -> bool {
         match (self, other) {
-            (Value::Text(one), Value::Text(other)) => are_same(one, other),
-            (Value::Float(one), Value::Float(other)) => one == other,
-            (Value::Double(one), Value::Double(other)) => one == other,
-            (Value::Int(one), Value::Int(other)) => one == other,
-            (Value::Uint(one), Value::Uint(other)) => one == other,
-            (Value::Sint(one), Value::Sint(other)) => one == other,
-            (Value::Bool(one), Value::Bool(other)) => one == other,
+            (ValueOf::Text(one), ValueOf::Text(other)) => are_same(one, other),
+            (ValueOf::Float(one), ValueOf::Float(other)) => one == other,
+            (ValueOf::Double(one), ValueOf::Double(other)) => one == other,
+            (ValueOf::Int(one), ValueOf::Int(other)) => one == other,
+            (ValueOf::Uint(one), ValueOf::Uint(other)) => one == other,
+            (ValueOf::Sint(one), ValueOf::Sint(other)) => one == other,
+            (ValueOf::Bool(one), ValueOf::Bool(other)) => one == other,
             _ => false,
         }
     }
@@ -82,7 +82,7 @@ impl Entry for Value {
 }
 
 #[inline(never)]
-fn are_same(one: &Text, other: &Text) -> bool
+fn are_same(one: &TextRef<'_>, other: &TextRef<'_>) -> bool
     ensures { IsTrue result ↔ (one.now ≡ other.now) }
 {
     one == other

@@ -1,7 +1,7 @@
 //! Whether tags name attributes: one pass over them, which builds nothing.
 ghost use Rattle.std.specs.Prelude.{◌≡◌, ◌+◌, ◌^◌, ◌<◌, ◌≤◌, List, length, None, IfErr, IsErrOf, OnOk};
 ghost use Rattle.mvt_base.specs.Reports.{Reports};
-ghost use Rattle.mvt_attrs.specs.declared.value.Value.{Value};
+ghost use Rattle.mvt_attrs.specs.Values.{Value};
 ghost use Rattle.mvt_attrs.specs.FirstUses.{lent};
 ghost use Rattle.mvt_attrs.specs.TagRules.{tag_fault, fault_of};
 ghost use Rattle.mvt_attrs.specs.Inner.Marking.{IsGrouped, AreBelow, IsIndexError};

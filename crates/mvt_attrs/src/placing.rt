@@ -1,12 +1,13 @@
 //! The tags of attributes, whose keys and values are placed in pools.
 ghost use Rattle.std.specs.Prelude.{◌≡◌, ◌<◌, ◌⊎◌, [], ◌∷◌, ◌++◌, ℕ, List, length, take, IfOk, OnOk, OnErr, IsErrOf};
 ghost use Rattle.mvt_attrs.specs.Pools.{key_pool, value_pool};
-ghost use Rattle.mvt_attrs.specs.Placed.{ArePlaced, AreReported, IsFullAt};
+ghost use Rattle.mvt_attrs.specs.Placed.{ArePlaced, AreReported, IsFullAt, IsPlaced};
 ghost use Rattle.mvt_attrs.specs.Tags.{Names};
 ghost use Rattle.mvt_attrs.specs.TagPlaces.{tags_in};
 
 use crate::key_pool::KeyPool;
 use crate::pool_error::PoolError;
+use crate::text_ref::TextRef;
 use crate::value::Attribute;
 use crate::value_pool::ValuePool;
 use mvt_base::LIMIT;
@@ -19,11 +20,11 @@ use std::alloc::{AllocError, Global};
 ///
 /// When memory runs out, or a full pool meets an entry that is new. Each pool then holds what it
 /// held and the entries of the attributes up to some place.
-pub fn tags_of(
+pub fn tags_of<'a>(
     alloc: Global,
-    attributes: &[Attribute],
-    keys: &mut KeyPool,
-    values: &mut ValuePool,
+    attributes: &'a [Attribute],
+    keys: &mut KeyPool<'a>,
+    values: &mut ValuePool<'a>,
 ) -> Result<Vec<u32>, PoolError>
     ensures tags { IfOk result (λ tags. Names keys.new values.new tags.items attributes.now) }
     ensures positions { IfOk result
@@ -58,10 +59,10 @@ pub fn tags_of(
 /// # Errors
 ///
 /// As `tags_of`, and the list is then unchanged or longer.
-pub(crate) fn append_tags(
-    attributes: &[Attribute],
-    keys: &mut KeyPool,
-    values: &mut ValuePool,
+pub(crate) fn append_tags<'a>(
+    attributes: &'a [Attribute],
+    keys: &mut KeyPool<'a>,
+    values: &mut ValuePool<'a>,
     last: &[u32],
     tags: &mut Vec<u32>,
 ) -> Result<(), PoolError>
@@ -92,12 +93,36 @@ pub(crate) fn append_tags(
     let _ = (keys.len(), values.len());
     let mut last = last;
     for attribute in attributes {
-        let key = keys.place_near(&attribute.key, last.first())?;
-        let value = values.place_near(&attribute.value, last.get(1))?;
+        let key = place_key(keys, attribute, last.first())?;
+        let value = place_value(values, attribute, last.get(1))?;
         push_pair(tags, key, value)?;
         last = last.get(2..).unwrap_or(&[]);
     }
     Ok(())
+}
+
+/// The place of an attribute's key, as `Pool::place_near` gives it.
+#[inline(always)]
+fn place_key<'a>(
+    keys: &mut KeyPool<'a>,
+    attribute: &'a Attribute,
+    guess: Option<&u32>,
+) -> Result<u32, PoolError>
+    ensures { IsPlaced keys.old keys.new attribute.now.key result }
+{
+    keys.place_near(&TextRef::of(attribute.key.as_str()), guess)
+}
+
+/// The place of an attribute's value, as `Pool::place_near` gives it.
+#[inline(always)]
+fn place_value<'a>(
+    values: &mut ValuePool<'a>,
+    attribute: &'a Attribute,
+    guess: Option<&u32>,
+) -> Result<u32, PoolError>
+    ensures { IsPlaced values.old values.new attribute.now.value result }
+{
+    values.place_near(&attribute.value.lent(), guess)
 }
 
 /// Adds the two indices of a tag, or neither.

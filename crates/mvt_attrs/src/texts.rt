@@ -10,7 +10,7 @@ use std::alloc::{AllocError, Global};
 /// # Errors
 ///
 /// When memory runs out.
-pub fn texts_of(alloc: Global, strs: &[&str]) -> Result<Vec<Text>, AllocError>
+pub(crate) fn texts_of(alloc: Global, strs: &[&str]) -> Result<Vec<Text>, AllocError>
     ensures { IfOk result (λ texts. texts.items ≡ lent strs.now) }
 {
     let mut texts = Vec::with_capacity(alloc, strs.len())?;

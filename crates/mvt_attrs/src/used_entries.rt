@@ -1,7 +1,7 @@
 //! The entries of a layer that its features use, each once, in order of first use.
 ghost use Rattle.std.specs.Prelude.{◌≡◌, ◌<◌, ◌≤◌, ◌⊎◌, ◌++◌, ◌∷◌, [], List, ℕ, Some, Contains, length, take, slice_get, IfOk, IsErrOf, IsTrue, OnErr, OnOk, vec_len, vec_capacity};
 ghost use Rattle.mvt_attrs.specs.declared.value.Attribute.{Attribute as AnAttribute};
-ghost use Rattle.mvt_attrs.specs.declared.value.Value.{Value as AValue};
+ghost use Rattle.mvt_attrs.specs.Values.{Value as AValue};
 ghost use Rattle.mvt_attrs.specs.Tags.{Names};
 ghost use Rattle.mvt_attrs.specs.TagPlaces.{tags_in};
 ghost use Rattle.mvt_attrs.specs.FirstUse.{AreDistinct};
@@ -17,8 +17,9 @@ use crate::entry_index::EntryIndex;
 use crate::placing::{append_tags, push_pair};
 use crate::pool::Pool;
 use crate::pool_error::PoolError;
-use crate::value::{Attribute, Value};
-use mvt_base::{LIMIT, Text};
+use crate::text_ref::TextRef;
+use crate::value::{Attribute, ValueRef};
+use mvt_base::LIMIT;
 use std::alloc::{AllocError, Global};
 
 /// How many entries there is room for once there is one: the lists of a small layer never grow.
@@ -52,31 +53,6 @@ impl<T: Entry> UsedEntries<T> {
             marks: Vec::new(alloc),
             used: Vec::new(alloc),
         }
-    }
-
-    /// Entries that are all different, of which the first `used` are used. An entry that is added
-    /// is compared with all of them.
-    ///
-    /// # Errors
-    ///
-    /// When memory runs out.
-    pub fn of_apart(alloc: Global, entries: Vec<T>, used: usize) -> Result<Self, AllocError>
-        requires few { length entries.items < LIMIT }
-        requires apart { AreDistinct entries.items }
-        requires within { used ≤ length entries.items }
-        ensures uses { IfOk result (λ uses. AreUsesOf uses entries.items) }
-        ensures used { IfOk result (λ uses. used_of uses ≡ take used entries.items) }
-    {
-        let count = entries.len();
-        let first = copied_all(alloc, &entries[..used])?;
-        let places = indices(alloc, count)?;
-        let marks = first_marks(alloc, count, used)?;
-        Ok(UsedEntries {
-            distinct: Pool::of_apart(alloc, entries, EntryIndex::Plain),
-            places,
-            marks,
-            used: first,
-        })
     }
 
     /// How many entries there are.
@@ -344,14 +320,14 @@ fn add_mark(marks: &mut Vec<u32>, count: usize)
     }
 }
 
-/// The keys and the values of a layer, and which of them its features use.
+/// The keys and the values of a layer, lent, and which of them its features use.
 #[derive(Drop)]
-pub struct LayerEntries {
-    pub keys: UsedEntries<Text>,
-    pub values: UsedEntries<Value>,
+pub struct LayerEntries<'a> {
+    pub keys: UsedEntries<TextRef<'a>>,
+    pub values: UsedEntries<ValueRef<'a>>,
 }
 
-impl LayerEntries {
+impl<'a> LayerEntries<'a> {
     /// No keys and no values, without memory.
     pub fn new(alloc: Global) -> Self
         ensures uses { HasNoneAdded result }
@@ -408,7 +384,7 @@ impl LayerEntries {
     /// and the list is unchanged or longer.
     pub fn append_attributes(
         &mut self,
-        attributes: &[Attribute],
+        attributes: &'a [Attribute],
         last: &[u32],
         out: &mut Vec<u32>,
     ) -> Result<(), PoolError>

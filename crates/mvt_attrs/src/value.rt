@@ -2,16 +2,17 @@
 ghost use Rattle.std.specs.Prelude.{◌≡◌, IfOk, IsOk};
 ghost use Rattle.mvt_attrs.specs.Values.{LiesInPlace};
 
+use crate::text_ref::TextRef;
 use mvt_base::Text;
 use std::alloc::{AllocError, Global};
 
-/// A value of one of the seven kinds (4.1, message Value).
+/// A value of one of the seven kinds (4.1, message Value), whose text is a `T`.
 ///
 /// Numbers of different kinds are different values: `Int(5)`, `Uint(5)` and `Sint(5)` are three.
 /// A float or a double is its bit pattern, which says nothing about the number.
 #[derive(Debug, Drop, PartialEq, Eq, PartialOrd, Ord, Hash)]
-pub enum Value {
-    Text(Text),
+pub enum ValueOf<T> {
+    Text(T),
     Float(u32),
     Double(u64),
     Int(i64),
@@ -20,7 +21,13 @@ pub enum Value {
     Bool(bool),
 }
 
-impl Value {
+/// A value that keeps its text.
+pub type Value = ValueOf<Text>;
+
+/// A value whose text is lent. In contracts it is the same value.
+pub type ValueRef<'a> = ValueOf<TextRef<'a>>;
+
+impl ValueOf<Text> {
     /// An equal value, which shares a text's memory.
     ///
     /// # Errors
@@ -32,13 +39,63 @@ impl Value {
         ensures in_place { LiesInPlace self.now → IsOk result }
     {
         match self {
-            Value::Text(text) => Ok(Value::Text(text.copy(alloc)?)),
-            Value::Float(bits) => Ok(Value::Float(*bits)),
-            Value::Double(bits) => Ok(Value::Double(*bits)),
-            Value::Int(number) => Ok(Value::Int(*number)),
-            Value::Uint(number) => Ok(Value::Uint(*number)),
-            Value::Sint(number) => Ok(Value::Sint(*number)),
-            Value::Bool(truth) => Ok(Value::Bool(*truth)),
+            ValueOf::Text(text) => Ok(ValueOf::Text(text.copy(alloc)?)),
+            number => number.lent().kept(alloc),
+        }
+    }
+
+    /// This value, lent.
+    #[inline(always)]
+    pub fn lent(&self) -> ValueRef<'_>
+        ensures { result ≡ self.now }
+    {
+        match self {
+            ValueOf::Text(text) => ValueOf::Text(TextRef::of(text.as_str())),
+            ValueOf::Float(bits) => ValueOf::Float(*bits),
+            ValueOf::Double(bits) => ValueOf::Double(*bits),
+            ValueOf::Int(number) => ValueOf::Int(*number),
+            ValueOf::Uint(number) => ValueOf::Uint(*number),
+            ValueOf::Sint(number) => ValueOf::Sint(*number),
+            ValueOf::Bool(truth) => ValueOf::Bool(*truth),
+        }
+    }
+}
+
+impl<'a> ValueOf<TextRef<'a>> {
+    /// This value once more.
+    #[inline(always)]
+    pub fn again(&self) -> ValueRef<'a>
+        ensures { result ≡ self.now }
+    {
+        match self {
+            ValueOf::Text(text) => ValueOf::Text(TextRef::of(text.as_str())),
+            ValueOf::Float(bits) => ValueOf::Float(*bits),
+            ValueOf::Double(bits) => ValueOf::Double(*bits),
+            ValueOf::Int(number) => ValueOf::Int(*number),
+            ValueOf::Uint(number) => ValueOf::Uint(*number),
+            ValueOf::Sint(number) => ValueOf::Sint(*number),
+            ValueOf::Bool(truth) => ValueOf::Bool(*truth),
+        }
+    }
+
+    /// The value that keeps a copy of this text.
+    ///
+    /// # Errors
+    ///
+    /// When memory runs out: a text of more than 14 bytes is the only value that takes any.
+    #[inline(always)]
+    pub fn kept(&self, alloc: Global) -> Result<Value, AllocError>
+        ensures same { IfOk result (λ value. value ≡ self.now) }
+        ensures in_place { LiesInPlace self.now → IsOk result }
+    {
+        match self {
+            ValueOf::Text(text) => Ok(ValueOf::Text(Text::from_str(alloc, text.as_str())?)),
+            ValueOf::Float(bits) => Ok(ValueOf::Float(*bits)),
+            ValueOf::Double(bits) => Ok(ValueOf::Double(*bits)),
+            ValueOf::Int(number) => Ok(ValueOf::Int(*number)),
+            ValueOf::Uint(number) => Ok(ValueOf::Uint(*number)),
+            ValueOf::Sint(number) => Ok(ValueOf::Sint(*number)),
+            ValueOf::Bool(truth) => Ok(ValueOf::Bool(*truth)),
         }
     }
 }

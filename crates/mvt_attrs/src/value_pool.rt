@@ -2,21 +2,21 @@
 ghost use Rattle.std.specs.Prelude.{◌≡◌, slice_get, option_copied};
 
 use crate::pool::Pool;
-use crate::value::Value;
+use crate::value::ValueRef;
 
-/// The values of a layer, each once: a value's tag is its place here.
+/// The values of a layer, lent, each once: a value's tag is its place here.
 ///
 /// ```ignore
 /// let mut values = ValuePool::new(alloc);
-/// values.place(&Value::Int(5))?;  // 0
-/// values.place(&Value::Uint(5))?; // 1: another kind is another value
-/// values.place(&Value::Int(5))?;  // 0, without memory
+/// values.place(&ValueRef::Int(5))?;  // 0
+/// values.place(&ValueRef::Uint(5))?; // 1: another kind is another value
+/// values.place(&ValueRef::Int(5))?;  // 0, without memory
 /// ```
-pub type ValuePool = Pool<Value>;
+pub type ValuePool<'a> = Pool<ValueRef<'a>>;
 
-impl Pool<Value> {
+impl<'a> Pool<ValueRef<'a>> {
     /// The value of a tag.
-    pub fn get(&self, index: u32) -> Option<&Value>
+    pub fn get(&self, index: u32) -> Option<&ValueRef<'a>>
         ensures { option_copied result ≡ slice_get self.now index }
     {
         self.entry(index)

@@ -183,24 +183,12 @@ fn resolves_any_number_of_keys(rt: HostRuntime) {
     }
 }
 
-// Where a key is placed.
-fn place_key(
-    rt: &(impl Abort + AllocGlobal),
-    keys: &mut KeyPool,
-    key: &str,
-) -> Result<u32, PoolError> {
-    let key = text(rt, key);
-    let place = keys.place(&key);
-    drop(key);
-    place
-}
-
 #[test]
 fn places_keys(rt: HostRuntime) {
     let mut keys = KeyPool::new(rt.alloc());
     expect!(rt; keys.is_empty());
     for (key, place) in [("k", 0), ("m", 1), ("k", 0)] {
-        expect_eq!(rt; place_key(&rt, &mut keys, key), Ok(place));
+        expect_eq!(rt; keys.place(&TextRef::of(key)), Ok(place));
     }
     expect_eq!(rt; keys.len(), 2);
     expect_eq!(rt; keys.get(1), Some("m"));
@@ -210,13 +198,14 @@ fn places_keys(rt: HostRuntime) {
 #[test]
 fn places_values(rt: HostRuntime) {
     let mut values = ValuePool::new(rt.alloc());
-    let numbers = [Value::Int(5), Value::Uint(5), Value::Sint(5), Value::Int(5)];
+    let int = ValueRef::Int(5);
+    let numbers = [int, ValueRef::Uint(5), ValueRef::Sint(5), ValueRef::Int(5)];
     for (index, number) in numbers.iter().enumerate() {
         expect_eq!(rt; values.place(number), Ok(index as u32 % 3));
     }
     drop(numbers);
     expect_eq!(rt; values.len(), 3);
-    expect!(rt; values.get(2) == Some(&Value::Sint(5)));
+    expect!(rt; values.get(2) == Some(&ValueRef::Sint(5)));
     expect!(rt; values.get(3).is_none());
     drop(values);
 }
@@ -225,6 +214,12 @@ fn expect_copy(rt: &(impl Abort + AllocGlobal), value: &Value) {
     let copy = value.copy(rt.alloc()).expect(rt, "a copy");
     expect!(rt; copy == *value);
     drop(copy);
+    let lent = value.lent();
+    expect!(rt; lent.again() == lent);
+    let kept = lent.kept(rt.alloc()).expect(rt, "a copy");
+    drop(lent);
+    expect!(rt; kept == *value);
+    drop(kept);
 }
 
 #[test]
@@ -253,11 +248,11 @@ fn shows_texts(rt: HostRuntime) {
 }
 
 // Of an attribute, and of none, over pools that may have its key and value.
-fn expect_tags(
+fn expect_tags<'a>(
     rt: &(impl Abort + AllocGlobal),
-    attributes: &[Attribute],
-    keys: &mut KeyPool,
-    values: &mut ValuePool,
+    attributes: &'a [Attribute],
+    keys: &mut KeyPool<'a>,
+    values: &mut ValuePool<'a>,
     expected: &[u32],
 ) {
     let tags = tags_of(rt.alloc(), attributes, keys, values).expect(rt, "tags");
@@ -283,32 +278,38 @@ fn places_attributes(rt: HostRuntime) {
     drop(attributes);
 }
 
-// Where a number's decimal digits are placed.
-fn place_number(rt: &(impl Abort + AllocGlobal), keys: &mut KeyPool, number: u32) -> u32 {
+fn digits(rt: &(impl Abort + AllocGlobal), number: u32) -> Text {
     let digits = format!(in rt.alloc(); "{number}").expect(rt, "digits");
-    let key = Text::from_string(digits).expect(rt, "a key");
-    let place = keys.place(&key);
-    drop(key);
-    place.expect(rt, "a place")
+    Text::from_string(digits).expect(rt, "a key")
 }
 
 #[test]
 fn places_many_texts(rt: HostRuntime) {
+    let mut texts = Vec::new(rt.alloc());
+    for number in 0..10_000u32 {
+        texts.push(digits(&rt, number)).expect(&rt, "texts");
+    }
     let mut keys = KeyPool::new(rt.alloc());
     for _turn in 0..2 {
-        for number in 0..10_000u32 {
-            expect_eq!(rt; place_number(&rt, &mut keys, number), number);
+        for (place, key) in (0..10_000u32).zip(texts.iter()) {
+            expect_eq!(rt; keys.place(&TextRef::of(key.as_str())), Ok(place));
         }
     }
     expect_eq!(rt; keys.len(), 10_000);
     drop(keys);
+    drop(texts);
 }
 
 // The tests of refused growths pass too where one allocation, whichever, is refused: each call has
 // two turns, of which one at most may want memory.
 
 // How often a key was refused, which is then at this place.
-pub(crate) fn key_refusals(rt: &impl Abort, keys: &mut KeyPool, key: &Text, place: u32) -> u8 {
+pub(crate) fn key_refusals<'a>(
+    rt: &impl Abort,
+    keys: &mut KeyPool<'a>,
+    key: &TextRef<'a>,
+    place: u32,
+) -> u8 {
     for refused in 0..2u8 {
         if keys.place(key) == Ok(place) {
             return refused;
@@ -320,10 +321,11 @@ pub(crate) fn key_refusals(rt: &impl Abort, keys: &mut KeyPool, key: &Text, plac
 
 fn refusals_of_keys(rt: &(impl Abort + AllocGlobal), first: &Text, second: &Text) -> u8 {
     let mut keys = KeyPool::new(rt.alloc());
-    let refused_first = key_refusals(rt, &mut keys, first, 0);
-    let refused_second = key_refusals(rt, &mut keys, second, 1);
+    let first = TextRef::of(first.as_str());
+    let refused_first = key_refusals(rt, &mut keys, &first, 0);
+    let refused_second = key_refusals(rt, &mut keys, &TextRef::of(second.as_str()), 1);
     // A key that is there takes no memory.
-    expect_eq!(rt; keys.place(first), Ok(0));
+    expect_eq!(rt; keys.place(&first), Ok(0));
     expect_eq!(rt; keys.get(1), Some("m"));
     drop(keys);
     refused_first.saturating_add(refused_second)
@@ -346,10 +348,10 @@ fn refused_keys(rt: HostRuntime) {
 }
 
 // How often a value was refused, which is then at this place.
-pub(crate) fn value_refusals(
+pub(crate) fn value_refusals<'a>(
     rt: &impl Abort,
-    values: &mut ValuePool,
-    value: &Value,
+    values: &mut ValuePool<'a>,
+    value: &ValueRef<'a>,
     place: u32,
 ) -> u8 {
     for refused in 0..2u8 {
@@ -363,11 +365,12 @@ pub(crate) fn value_refusals(
 
 fn refusals_of_values(rt: &(impl Abort + AllocGlobal), first: &Value, second: &Value) -> u8 {
     let mut values = ValuePool::new(rt.alloc());
-    let refused_first = value_refusals(rt, &mut values, first, 0);
-    let refused_second = value_refusals(rt, &mut values, second, 1);
+    let (first, second) = (first.lent(), second.lent());
+    let refused_first = value_refusals(rt, &mut values, &first, 0);
+    let refused_second = value_refusals(rt, &mut values, &second, 1);
     // A value that is there takes no memory.
-    expect_eq!(rt; values.place(first), Ok(0));
-    expect!(rt; values.get(1) == Some(second));
+    expect_eq!(rt; values.place(&first), Ok(0));
+    expect!(rt; values.get(1) == Some(&second));
     drop(values);
     refused_first.saturating_add(refused_second)
 }
@@ -392,16 +395,16 @@ fn refused_values(rt: HostRuntime) {
 }
 
 // What pools have that were refused to grow.
-fn expect_no_more(rt: &impl Abort, keys: &KeyPool, values: &ValuePool) {
+fn expect_no_more(rt: &impl Abort, keys: &KeyPool<'_>, values: &ValuePool<'_>) {
     expect!(rt; keys.is_empty() || keys.get(0) == Some(LONG));
-    expect!(rt; values.is_empty() || values.get(0) == Some(&Value::Uint(5)));
+    expect!(rt; values.is_empty() || values.get(0) == Some(&ValueRef::Uint(5)));
 }
 
-fn is_refused_into(
+fn is_refused_into<'a>(
     rt: &(impl Abort + AllocGlobal),
-    used: &[Attribute],
-    keys: &mut KeyPool,
-    values: &mut ValuePool,
+    used: &'a [Attribute],
+    keys: &mut KeyPool<'a>,
+    values: &mut ValuePool<'a>,
 ) -> bool {
     match tags_of(rt.alloc(), used, keys, values) {
         Ok(tags) => {
@@ -421,13 +424,13 @@ fn are_tags_refused(rt: &(impl Abort + AllocGlobal)) -> bool {
     let Ok(used) = attribute(rt.alloc(), LONG, Value::Uint(5)) else {
         return true;
     };
+    let used = [used];
     let mut keys = KeyPool::new(rt.alloc());
     let mut values = ValuePool::new(rt.alloc());
-    let used = [used];
     let is_refused = is_refused_into(rt, &used, &mut keys, &mut values);
-    drop(used);
     drop(values);
     drop(keys);
+    drop(used);
     is_refused
 }
 

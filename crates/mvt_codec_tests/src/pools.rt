@@ -1,6 +1,7 @@
 //! Pools of few, of more and of many entries.
 use crate::attrs::{key_refusals, value_refusals};
 use crate::expect::{expect, expect_eq};
+use crate::uses::are_equal;
 use mvt_attrs::*;
 use mvt_base::Text;
 use std::alloc::{AllocError, Global};
@@ -24,32 +25,27 @@ fn hashes_alike(rt: &(impl Abort + AllocGlobal), number: u32) -> Text {
     Text::from_string(text).expect(rt, "a text")
 }
 
-// Where the key of this number is placed.
-fn place_key(rt: &(impl Abort + AllocGlobal), keys: &mut KeyPool, number: u32) -> u32 {
-    let key = hashes_alike(rt, number);
-    let place = keys.place(&key);
-    drop(key);
-    place.expect(rt, "a place")
-}
-
-// The key of this number stands at this place.
-fn expect_key(rt: &(impl Abort + AllocGlobal), keys: &KeyPool, place: u32, number: u32) {
-    let key = hashes_alike(rt, number);
+// Where a key is placed, and that it stands there.
+fn expect_place<'a>(rt: &impl Abort, keys: &mut KeyPool<'a>, key: &'a Text, place: u32) {
+    expect_eq!(rt; keys.place(&TextRef::of(key.as_str())), Ok(place));
     expect_eq!(rt; keys.get(place), Some(key.as_str()));
-    drop(key);
 }
 
 #[test]
 fn places_keys_of_one_hash(rt: HostRuntime) {
+    let mut texts = Vec::new(rt.alloc());
+    for number in 0..300u32 {
+        texts.push(hashes_alike(&rt, number)).expect(&rt, "texts");
+    }
     let mut keys = KeyPool::new(rt.alloc());
     for _turn in 0..2 {
-        for number in 0..300u32 {
-            expect_eq!(rt; place_key(&rt, &mut keys, number), number);
+        for (place, text) in (0..300u32).zip(texts.iter()) {
+            expect_place(&rt, &mut keys, text, place);
         }
     }
     expect_eq!(rt; keys.len(), 300);
-    expect_key(&rt, &keys, 299, 299);
     drop(keys);
+    drop(texts);
 }
 
 // The last 20 bits of a text's hash, which name its first slot.
@@ -86,48 +82,44 @@ fn slots_meet(rt: HostRuntime) {
     drop(last);
 }
 
-fn place_letter(rt: &(impl Abort + AllocGlobal), keys: &mut KeyPool, letter: &str) {
-    let key = Text::from_str(rt.alloc(), letter).expect(rt, "a key");
-    let place = keys.place(&key);
-    drop(key);
-    expect!(rt; place.is_ok());
-}
-
 #[test]
 fn places_keys_that_meet_twice(rt: HostRuntime) {
+    let mut texts = Vec::new(rt.alloc());
+    for (number, _) in MEETING {
+        texts.push(hashes_alike(&rt, number)).expect(&rt, "texts");
+    }
     let mut keys = KeyPool::new(rt.alloc());
     for letter in LETTERS {
-        place_letter(&rt, &mut keys, letter);
+        expect!(rt; keys.place(&TextRef::of(letter)).is_ok());
     }
     for _turn in 0..2 {
-        for (number, place) in MEETING {
-            expect_eq!(rt; place_key(&rt, &mut keys, number), place);
-            expect_key(&rt, &keys, place, number);
+        for (text, (_, place)) in texts.iter().zip(MEETING) {
+            expect_place(&rt, &mut keys, text, place);
         }
     }
     drop(keys);
-}
-
-fn place_value(rt: &impl Abort, values: &mut ValuePool, value: Value) -> u32 {
-    let place = values.place(&value);
-    drop(value);
-    place.expect(rt, "a place")
+    drop(texts);
 }
 
 #[test]
 fn places_many_values(rt: HostRuntime) {
+    let mut made = Vec::new(rt.alloc());
+    for number in 0..1_000u32 {
+        made.push(Value::Uint(u64::from(number)))
+            .expect(&rt, "values");
+        let text = Value::Text(hashes_alike(&rt, number));
+        made.push(text).expect(&rt, "values");
+    }
     let mut values = ValuePool::new(rt.alloc());
     for _turn in 0..2 {
-        for number in 0..1_000u32 {
-            let uint = Value::Uint(u64::from(number));
-            expect_eq!(rt; place_value(&rt, &mut values, uint), 2 * number);
-            let text = Value::Text(hashes_alike(&rt, number));
-            expect_eq!(rt; place_value(&rt, &mut values, text), 2 * number + 1);
+        for (place, value) in (0..2_000u32).zip(made.iter()) {
+            expect_eq!(rt; values.place(&value.lent()), Ok(place));
         }
     }
     expect_eq!(rt; values.len(), 2_000);
-    expect!(rt; values.get(1_998) == Some(&Value::Uint(999)));
+    expect!(rt; values.get(1_998) == Some(&ValueRef::Uint(999)));
     drop(values);
+    drop(made);
 }
 
 fn letters(alloc: Global) -> Result<Vec<Attribute>, AllocError> {
@@ -141,10 +133,10 @@ fn letters(alloc: Global) -> Result<Vec<Attribute>, AllocError> {
 }
 
 // The tags of these attributes, whatever is guessed.
-fn expect_tags(
+fn expect_tags<'a>(
     rt: &(impl Abort + AllocGlobal),
-    attributes: &[Attribute],
-    uses: &mut LayerEntries,
+    attributes: &'a [Attribute],
+    uses: &mut LayerEntries<'a>,
     last: &[u32],
 ) {
     let mut tags = Vec::new(rt.alloc());
@@ -175,8 +167,8 @@ fn brought_entries_stay_used(rt: HostRuntime) {
     let mut uses = LayerEntries::new(rt.alloc());
     expect_tags(&rt, &attributes, &mut uses, &[]);
     let second = attributes.get(1).expect(&rt, "two attributes");
-    expect!(rt; uses.keys.add(&second.key).is_ok());
-    expect!(rt; uses.values.add(&Value::Uint(3)).is_ok());
+    expect!(rt; uses.keys.add(&TextRef::of(second.key.as_str())).is_ok());
+    expect!(rt; uses.values.add(&ValueRef::Uint(3)).is_ok());
     expect_eq!(rt; uses.keys.used().len() + uses.values.used().len(), 4);
     let mut tags = Vec::new(rt.alloc());
     let done = uses.append_used(&[0, 0], &mut tags);
@@ -188,14 +180,11 @@ fn brought_entries_stay_used(rt: HostRuntime) {
 }
 
 // Places each letter as a key. Answers how many growths were refused.
-fn refused_letters(rt: &(impl Abort + AllocGlobal), keys: &mut KeyPool) -> u8 {
+fn refused_letters<'a>(rt: &impl Abort, keys: &mut KeyPool<'a>) -> u8 {
     let mut refused = 0u8;
     for (index, letter) in LETTERS.iter().enumerate() {
-        let Ok(key) = Text::from_str(rt.alloc(), letter) else {
-            return 9;
-        };
-        refused = refused.saturating_add(key_refusals(rt, keys, &key, index as u32));
-        drop(key);
+        let more = key_refusals(rt, keys, &TextRef::of(letter), index as u32);
+        refused = refused.saturating_add(more);
     }
     refused
 }
@@ -219,37 +208,36 @@ fn refused_forms_of_values(rt: HostRuntime) {
     let mut refused = 0u8;
     let mut values = ValuePool::new(rt.alloc());
     for number in 0..40u32 {
-        let value = Value::Sint(i64::from(number));
+        let value = ValueRef::Sint(i64::from(number));
         refused = refused.saturating_add(value_refusals(&rt, &mut values, &value, number));
-        drop(value);
     }
     for number in 0..40u32 {
-        expect_eq!(rt; place_value(&rt, &mut values, Value::Sint(i64::from(number))), number);
+        expect_eq!(rt; values.place(&ValueRef::Sint(i64::from(number))), Ok(number));
     }
     expect!(rt; refused < 2);
     drop(values);
 }
 
 // So many values, of which the last is this number and the others rise from 1.
-fn values_of(alloc: Global, count: u32, last: u64) -> Result<Vec<Value>, AllocError> {
+fn values_of<'a>(alloc: Global, count: u32, last: u64) -> Result<Vec<ValueRef<'a>>, AllocError> {
     let mut values = Vec::new(alloc);
     for number in 1..count {
-        values.push(Value::Uint(u64::from(number)))?;
+        values.push(ValueRef::Uint(u64::from(number)))?;
     }
-    values.push(Value::Uint(last))?;
+    values.push(ValueRef::Uint(last))?;
     Ok(values)
 }
 
 // The uses of such values, which are added as they stand or taken.
-fn uses_of(
+fn uses_of<'a>(
     alloc: Global,
     count: u32,
     last: u64,
     is_taken: bool,
-) -> Result<LayerEntries, AllocError> {
+) -> Result<LayerEntries<'a>, AllocError> {
     let values = values_of(alloc, count, last)?;
     let mut uses = LayerEntries::new(alloc);
-    uses.keys.add(&Text::from_str(alloc, "key")?)?;
+    uses.keys.add(&TextRef::of("key"))?;
     if is_taken {
         uses.values.take_all(values)?;
     } else {
@@ -267,7 +255,8 @@ fn expect_two_used(rt: &(impl Abort + AllocGlobal), count: u32, is_taken: bool) 
     expect!(rt; done.is_ok());
     expect_eq!(rt; tags.as_slice(), [0, 0, 0, 0, 0, 1].as_slice());
     expect_eq!(rt; uses.values.len(), count as usize);
-    expect!(rt; uses.values.used() == [Value::Uint(1), Value::Uint(2)].as_slice());
+    let used = [ValueRef::Uint(1), ValueRef::Uint(2)];
+    expect!(rt; are_equal(uses.values.used(), &used));
     drop(tags);
     drop(uses);
 }
@@ -281,8 +270,8 @@ fn expect_three_used(rt: &(impl Abort + AllocGlobal), count: u32, is_taken: bool
     expect!(rt; done.is_ok());
     expect_eq!(rt; tags.as_slice(), [0, 0, 0, 1, 0, 2].as_slice());
     expect_eq!(rt; uses.values.len(), count as usize);
-    let used = [Value::Uint(last), Value::Uint(1), Value::Uint(2)];
-    expect!(rt; uses.values.used() == used.as_slice());
+    let used = [ValueRef::Uint(last), ValueRef::Uint(1), ValueRef::Uint(2)];
+    expect!(rt; are_equal(uses.values.used(), &used));
     drop(tags);
     drop(uses);
 }

@@ -51,6 +51,22 @@ fn values(alloc: Global, size: u16, different: u16) -> Result<Vec<Value>, AllocE
     Ok(values)
 }
 
+fn lent_keys<'a>(alloc: Global, texts: &'a [Text]) -> Result<Vec<TextRef<'a>>, AllocError> {
+    let mut keys = Vec::new(alloc);
+    for text in texts {
+        keys.push(TextRef::of(text.as_str()))?;
+    }
+    Ok(keys)
+}
+
+fn lent_values<'a>(alloc: Global, values: &'a [Value]) -> Result<Vec<ValueRef<'a>>, AllocError> {
+    let mut lent = Vec::new(alloc);
+    for value in values {
+        lent.push(value.lent())?;
+    }
+    Ok(lent)
+}
+
 fn add<T: Entry>(uses: &mut UsedEntries<T>, entries: Vec<T>, way: Way) -> Result<(), AllocError> {
     match way {
         Way::OneByOne => {
@@ -76,40 +92,75 @@ fn tags(alloc: Global, count: u32) -> Result<Vec<u32>, AllocError> {
     Ok(tags)
 }
 
+// The keys and the values of a layer.
+#[derive(Drop)]
+struct Made {
+    keys: Vec<Text>,
+    values: Vec<Value>,
+}
+
+fn make(alloc: Global, size: u16, different: u16) -> Result<Made, AllocError> {
+    Ok(Made {
+        keys: keys(alloc, size, different)?,
+        values: values(alloc, size, different)?,
+    })
+}
+
 // The entries of a layer, and which of them tags use.
 #[derive(Drop)]
-struct MadeUses {
-    uses: LayerEntries,
+struct MadeUses<'a> {
+    uses: LayerEntries<'a>,
     tags: Vec<u32>,
 }
 
-// So many entries, the first of which stand again behind them with a new one; and tags.
-fn make_uses(alloc: Global, size: u16, different: u16, way: Way) -> Result<MadeUses, AllocError> {
+fn add_made<'a>(
+    alloc: Global,
+    uses: &mut LayerEntries<'a>,
+    made: &'a Made,
+    way: Way,
+) -> Result<(), AllocError> {
+    add(&mut uses.keys, lent_keys(alloc, &made.keys)?, way)?;
+    add(&mut uses.values, lent_values(alloc, &made.values)?, way)
+}
+
+// These entries, then more; and tags.
+fn make_uses<'a>(
+    alloc: Global,
+    first: &'a Made,
+    more: &'a Made,
+    way: Way,
+) -> Result<MadeUses<'a>, AllocError> {
     let mut uses = LayerEntries::new(alloc);
-    add(&mut uses.keys, keys(alloc, size, different)?, way)?;
-    add(&mut uses.values, values(alloc, size, different)?, way)?;
-    let more = different.saturating_add(1);
-    add(&mut uses.keys, keys(alloc, more, more)?, way)?;
-    add(&mut uses.values, values(alloc, more, more)?, way)?;
+    add_made(alloc, &mut uses, first, way)?;
+    add_made(alloc, &mut uses, more, way)?;
     let mut found = Vec::new(alloc);
-    let count = u32::from(size) + u32::from(more);
+    let count = u32::try_from(uses.keys.len()).unwrap_or(0);
     uses.append_used(&tags(alloc, count)?, &mut found)?;
     Ok(MadeUses { uses, tags: found })
 }
 
-fn are_same(one: &MadeUses, other: &MadeUses) -> bool {
+// Whether lists of any entries are the same.
+pub(crate) fn are_equal<T: PartialEq>(one: &[T], other: &[T]) -> bool {
+    one == other
+}
+
+fn are_same(one: &MadeUses<'_>, other: &MadeUses<'_>) -> bool {
     one.tags == other.tags
-        && one.uses.keys.used() == other.uses.keys.used()
-        && one.uses.values.used() == other.uses.values.used()
+        && are_equal(one.uses.keys.used(), other.uses.keys.used())
+        && are_equal(one.uses.values.used(), other.uses.values.used())
         && one.uses.keys.len() == other.uses.keys.len()
         && one.uses.values.len() == other.uses.values.len()
 }
 
-// How many keys are used, where all ways agree.
+// How many keys are used of so many entries, the first of which stand again behind them with a new
+// one, where all ways agree.
 fn used_in_all_ways(alloc: Global, size: u16, different: u16) -> Option<usize> {
-    let one = make_uses(alloc, size, different, Way::OneByOne).ok()?;
-    let all = make_uses(alloc, size, different, Way::All).ok()?;
-    let taken = make_uses(alloc, size, different, Way::Taken).ok()?;
+    let first = make(alloc, size, different).ok()?;
+    let count = different.saturating_add(1);
+    let more = make(alloc, count, count).ok()?;
+    let one = make_uses(alloc, &first, &more, Way::OneByOne).ok()?;
+    let all = make_uses(alloc, &first, &more, Way::All).ok()?;
+    let taken = make_uses(alloc, &first, &more, Way::Taken).ok()?;
     if are_same(&one, &all) && are_same(&one, &taken) {
         Some(one.uses.keys.used().len())
     } else {

@@ -9,8 +9,8 @@ use Rattle.mvt_base.specs.Rules.{first}
 use Rattle.mvt_base.proofs.ListLemmas.{all_joined, mapped_one}
 use Rattle.mvt_base.proofs.TableLemmas.{each_none}
 use Rattle.mvt_base.proofs.SelectionLemmas.{all_only}
-use Rattle.mvt_attrs.specs.declared.value.Value.{Value}
-use Rattle.mvt_attrs.specs.declared.value.Value.TheVariants.{Text, Float, Double, Int, Uint, Sint, Bool as Truth}
+use Rattle.mvt_attrs.specs.Values.{Value}
+use Rattle.mvt_attrs.specs.declared.value.ValueOf.TheVariants.{Text, Float, Double, Int, Uint, Sint, Bool as Truth}
 use Rattle.mvt_attrs.specs.Tags.{Names, Resolved}
 use Rattle.mvt_geometry.specs.declared.shape.Kind.{Kind}
 use Rattle.mvt_geometry.specs.declared.shape.Kind.TheVariants as kinds

@@ -8,7 +8,7 @@ use Rattle.mvt_base.specs.Rules.{when, under, map_faults, each, first}
 use Rattle.mvt_base.proofs.ListLemmas.{all_weaker, all_joined}
 use Rattle.mvt_base.proofs.RuleLemmas.{first-under, first-map_faults, first-when_not, option_or-none, option_or-right, option_or-some}
 use Rattle.mvt_base.proofs.TableLemmas.{first-rows_all, none_mapped, when_none, none_each}
-use Rattle.mvt_attrs.specs.declared.value.Value.{Value}
+use Rattle.mvt_attrs.specs.Values.{Value}
 use Rattle.mvt_attrs.specs.declared.resolving.TagError.{TagError}
 use Rattle.mvt_attrs.specs.declared.resolving.TagError.TheVariants as tag_errors
 use Rattle.mvt_attrs.specs.Tags.{Resolved}

@@ -6,7 +6,7 @@ use Rattle.mvt_base.proofs.OrderLemmas.{first_is_least, least_is_first, AreRowsF
 use Rattle.mvt_base.proofs.RuleLemmas.{first-under, option_or-nones}
 use Rattle.mvt_base.proofs.TableLemmas.{none_mapped, each_none, by_number, if_ordered}
 use Rattle.mvt_base.proofs.SelectionLemmas.{all_only}
-use Rattle.mvt_attrs.specs.declared.value.Value.{Value}
+use Rattle.mvt_attrs.specs.Values.{Value}
 use Rattle.mvt_attrs.specs.Tags.{Resolved}
 use Rattle.mvt_geometry.specs.Drawing.{Draws}
 use Rattle.mvt_wire.specs.Field.{Content, varint, fixed64, bytes, fixed32, Entry}

@@ -4,23 +4,18 @@ use Rattle.std.specs.Prelude.{IfSome}
 use Rattle.std.proofs.lemmas.Bool.{eqb-true}
 use Rattle.std.proofs.Math.ListN.{drop_of_length-le}
 use Rattle.mvt_base.proofs.ListLemmas.{all_joined}
-use Rattle.mvt_attrs.specs.declared.value.Value.{Value}
-use Rattle.mvt_attrs.specs.TagPlaces.{tags_in}
 use Rattle.mvt_geometry.specs.declared.shape.Kind.{Kind}
 use Rattle.mvt_geometry.specs.declared.shape.Kind.TheVariants as kinds
 use Rattle.mvt_wire.specs.Field.{Content, varint, bytes}
 use Rattle.mvt_wire.specs.Spelling.{Plain, IsFit, short_field, spelled}
-use Rattle.mvt_geometry.proofs.GeometryLaws.{drawn_small}
-use Rattle.mvt_wire.proofs.WireLaws.{spelled_parts, spelled_whole_whole}
+use Rattle.mvt_wire.proofs.WireLaws.{spelled_parts}
 use Rattle.mvt_feature.specs.declared.canonical_feature.Parts.{Parts}
-use Rattle.mvt_feature.specs.declared.feature.Feature.{Feature}
 use Rattle.mvt_feature.specs.declared.numbers.feature.TheConstants.{ID, TAGS, TYPE, GEOMETRY}
 use Rattle.mvt_feature.specs.Canonical.{plain, id_fields, type_fields, type_number}
-use Rattle.mvt_feature.specs.Copying.{packed_tags, parts_fields}
-use Rattle.mvt_feature.specs.Features.{IsFeatureOf}
-use Rattle.mvt_feature.specs.Ordering.{AreMet, IsInAnyOrder, IsOfParts, IsOrdered, met_fields, met_integers, met_type}
+use Rattle.mvt_feature.specs.Copying.{packed_tags}
+use Rattle.mvt_feature.specs.Ordering.{AreMet, IsInAnyOrder, met_fields, met_integers, met_type}
 use Rattle.mvt_feature.specs.Selection.{AreAlike, contents_at}
-use Rattle.mvt_feature.proofs.CanonicalLemmas.{feature_reads, only_plain}
+use Rattle.mvt_feature.proofs.CanonicalLemmas.{only_plain}
 
 pub contents_joined : (k : ℕ) (ps qs : List Plain) → contents_at k (ps ++ qs) ≡ contents_at k ps ++ contents_at k qs
 contents_joined k [] qs = refl
@@ -215,23 +210,3 @@ only_as_contents k (p ∷ ps) = by_test (p.number == k) refl (only_as_contents k
 
 pub only_alike : (ps qs : List Plain) → AreAlike ps qs → (k : ℕ) → only_plain k ps ≡ only_plain k qs
 only_alike ps qs alike k = only_as_contents k ps ∙ ap (map (plain k)) (alike k) ∙ sym (only_as_contents k qs)
-
--- the feature whose parts stand in any order, put in order
-pub ordered : (payload : List ℕ) (p : Parts) (keys : List (List ℕ)) (values : List Value) (used after : ℕ × ℕ) (f : Feature)
-    (before out : List ℕ) → IsInAnyOrder payload p → IsOfParts p keys values used after f → out ≡ before ++ spelled (parts_fields p)
-    → IsOrdered payload keys values used after before out
-ordered payload p keys values used after f before out order is written =
-    let tags = tags_in keys values f.attributes in
-    let whole = spelled_whole_whole order.fields order.fit in
-    let same = λ (k : ℕ). ap (only_plain k) whole.2 ∙ only_alike order.fields (parts_fields p) order.alike k ∙ ap (only_plain k) is.fields in
-    record {
-      feature = f;
-      is = subst (λ b. IsFeatureOf b keys values f) (sym order.is) (
-        whole.0,
-        whole.1,
-        feature_reads whole.0 keys values tags f same is.named is.small is.valid (drawn_small f.geometry is.valid.drawn),
-      );
-      valid = is.valid;
-      uses = is.uses;
-      written = written ∙ ap (λ fs. before ++ spelled fs) is.fields;
-    }

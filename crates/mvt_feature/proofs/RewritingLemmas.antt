@@ -1,7 +1,7 @@
 -- A feature whose payload was judged, and what is written of it.
 use Rattle.std.proofs.Common.{◌≡◌, ℕ, ◌<◌, ◌^◌, List, [], ◌∷◌, ◌++◌, Option, None, refl, sym, ap, subst, ◌∙◌}
 use Rattle.std.specs.List.{AllByRecursion}
-use Rattle.mvt_attrs.specs.declared.value.Value.{Value}
+use Rattle.mvt_attrs.specs.Values.{Value}
 use Rattle.mvt_attrs.specs.declared.used_entries.LayerEntries.{LayerEntries}
 use Rattle.mvt_attrs.specs.TagRules.{tag_fault}
 use Rattle.mvt_attrs.specs.TagPlaces.{tags_in}

@@ -3,8 +3,8 @@ use Rattle.std.proofs.Common.{◌≡◌, ℕ, List, [], Some, None, sym, ap, ◌
 use Rattle.std.specs.List.{last_or}
 use Rattle.std.proofs.lemmas.Bool.{eq-eqb}
 use Rattle.mvt_base.proofs.SelectionLemmas.{only_number, last_of_all}
-use Rattle.mvt_attrs.specs.declared.value.Value.{Value}
-use Rattle.mvt_attrs.specs.declared.value.Value.TheVariants.{Text, Float, Double, Int, Uint, Sint, Bool as Truth}
+use Rattle.mvt_attrs.specs.Values.{Value}
+use Rattle.mvt_attrs.specs.declared.value.ValueOf.TheVariants.{Text, Float, Double, Int, Uint, Sint, Bool as Truth}
 use Rattle.mvt_wire.specs.Field.{Content, varint, fixed64, bytes, fixed32, Entry}
 use Rattle.mvt_wire.specs.Zigzag.{unzig}
 use Rattle.mvt_feature.specs.Selection.{only}

@@ -8,15 +8,13 @@ use Rattle.mvt_base.specs.Reports.{Reports}
 use Rattle.mvt_base.specs.Rules.{AreOrdered, IsLeast, when, each, first}
 use Rattle.mvt_base.proofs.RuleLemmas.{first-when, first-when_not, option_or-none, option_or-nones, option_or-right}
 use Rattle.mvt_base.proofs.ListLemmas.{all_weaker}
-use Rattle.mvt_attrs.specs.declared.value.Value.{Value}
-use Rattle.mvt_attrs.specs.declared.value.Value.TheVariants.{Text, Float, Double, Int, Uint, Sint, Bool as Truth}
+use Rattle.mvt_attrs.specs.Values.{Value}
+use Rattle.mvt_attrs.specs.declared.value.ValueOf.TheVariants.{Text, Float, Double, Int, Uint, Sint, Bool as Truth}
 use Rattle.mvt_wire.specs.Field.{Content, varint, fixed64, bytes, fixed32, Entry}
 use Rattle.mvt_wire.specs.Split.{Parts, Whole, split}
 use Rattle.mvt_feature.specs.declared.numbers.value.TheConstants.{STRING, FLOAT, DOUBLE, INT, UINT, SINT, BOOL}
 use Rattle.mvt_wire.specs.Zigzag.{zig, unzig}
-use Rattle.mvt_feature.specs.declared.value.ValueRef.{ValueRef}
 use Rattle.mvt_feature.specs.declared.value.Kinds.TheVariants.{One}
-use Rattle.mvt_feature.specs.ValueRefs.{referred_value}
 use Rattle.mvt_feature.specs.Inner.{AreKinds}
 use Rattle.mvt_base.proofs.OrderLemmas.{first_is_least, least_is_first, AreRowsFrom, rows_ordered, each_ordered, when_ordered}
 use Rattle.mvt_base.proofs.TableLemmas.{firsts, first-rows_all, when_none, none_each}
@@ -203,14 +201,14 @@ pub split_of : (payload : List ℕ) (xs : List Entry) → Whole payload xs → (
 split_of payload xs whole = let only = split_function_only payload [] xs whole in (sym only.0, sym only.1)
 
 -- the value of `read_value_ref`
-pub kinds_value : (payload : List ℕ) (payload_at number : ℕ) (m : ValueRef) → (split payload).rest ≡ []
+pub kinds_value : (payload : List ℕ) (payload_at number : ℕ) (m : Value) → (split payload).rest ≡ []
     → ValuesClean payload_at (split payload).fields → AreKinds (split payload).fields (One number m)
-    → IsValueOf payload (referred_value m)
+    → IsValueOf payload m
 kinds_value payload payload_at number m rest clean (one, (last, (is, (named, means)))) = (
   (split payload).fields,
   split_function_whole payload rest,
-  value_from payload_at (split payload).fields last (referred_value m) clean one is
-      (subst (λ n. Means n last.content (referred_value m)) (sym named) means),
+  value_from payload_at (split payload).fields last m clean one is
+      (subst (λ n. Means n last.content m) (sym named) means),
 )
 
 -- a field of a kind, of the right form, says a value

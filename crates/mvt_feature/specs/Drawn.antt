@@ -1,7 +1,7 @@
 -- A feature whose tags or integers are left as they stand, and whose geometry was told (Mapbox Vector Tile Specification 2.1, 4.2).
 use Rattle.std.specs.Prelude.{◌≡◌, ℕ, List}
 use Rattle.mvt_attrs.specs.declared.value.Attribute.{Attribute}
-use Rattle.mvt_attrs.specs.declared.value.Value.{Value}
+use Rattle.mvt_attrs.specs.Values.{Value}
 use Rattle.mvt_attrs.specs.Tags.{Resolved}
 use Rattle.mvt_geometry.specs.declared.shape.Geometry.{Geometry}
 use Rattle.mvt_geometry.specs.Shape.{kind_of}

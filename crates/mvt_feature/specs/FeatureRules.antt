@@ -2,7 +2,7 @@
 use Rattle.std.specs.Prelude.{ℕ, ◌+◌, ◌^◌, true, not, ◌==◌, nat_lt, List, [], ◌∷◌, Option, if◌then◌else◌}
 use Rattle.std.specs.List.{flat_map}
 use Rattle.mvt_base.specs.Rules.{Rules, when, under, map_faults, rows, each, first}
-use Rattle.mvt_attrs.specs.declared.value.Value.{Value}
+use Rattle.mvt_attrs.specs.Values.{Value}
 use Rattle.mvt_attrs.specs.declared.resolving.TagCause.{TagCause}
 use Rattle.mvt_attrs.specs.TagRules.{count_rules, pair_rules}
 use Rattle.mvt_geometry.specs.declared.shape.Kind.{Kind}

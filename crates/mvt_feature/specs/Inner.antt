@@ -1,7 +1,7 @@
 -- Definitions between private functions, which no public contract cites.
 use Rattle.std.specs.Prelude.{◌≡◌, ◌≢◌, ℕ, ◌==◌, true, false, List, [], Option, Some, None, Result, if◌then◌else◌}
 use Rattle.std.specs.List.{last_or}
-use Rattle.mvt_attrs.specs.declared.value.Value.{Value}
+use Rattle.mvt_attrs.specs.Values.{Value}
 use Rattle.mvt_attrs.specs.Tags.{Resolved}
 use Rattle.mvt_geometry.specs.declared.shape.Kind.{Kind}
 use Rattle.mvt_geometry.specs.Drawing.{Draws}
@@ -11,10 +11,8 @@ use Rattle.mvt_feature.specs.declared.message_error.MessageError.{MessageError}
 use Rattle.mvt_feature.specs.declared.feature.Feature.{Feature}
 use Rattle.mvt_feature.specs.declared.feature_fields.FeatureFields.{FeatureFields}
 use Rattle.mvt_feature.specs.declared.scratch.Scratch.{Scratch}
-use Rattle.mvt_feature.specs.declared.value.ValueRef.{ValueRef}
 use Rattle.mvt_feature.specs.declared.value.Kinds.{Kinds}
 use Rattle.mvt_feature.specs.declared.value.Kinds.TheVariants.{Nothing, One, Several}
-use Rattle.mvt_feature.specs.ValueRefs.{referred_value}
 use Rattle.mvt_feature.specs.Features.{number_of, number_in, kind_of_type, IsFeatureOf}
 use Rattle.mvt_feature.specs.FeatureRules.{numbers_of, joined, kind_in, feature_field_rules}
 use Rattle.mvt_feature.specs.Selection.{last_only}
@@ -27,7 +25,7 @@ abbrev pub AreKindsOf : List Entry → Kinds → Type 0
 AreKindsOf fields Nothing = fields ≡ []
 AreKindsOf fields (One number meaning) =
     (are_one_kind fields ≡ true)
-    × ((x : Entry) × ((last_or None fields ≡ Some x) × ((x.number ≡ number) × Means number x.content (referred_value meaning))))
+    × ((x : Entry) × ((last_or None fields ≡ Some x) × ((x.number ≡ number) × Means number x.content meaning)))
 AreKindsOf fields Several = (fields ≢ []) × (are_one_kind fields ≡ false)
 
 -- the fields of a value's payload that have one of its kinds
@@ -35,7 +33,7 @@ abbrev pub AreKinds : List Entry → Kinds → Type 0
 AreKinds fields k = AreKindsOf (kinds fields) k
 
 -- the kinds with one more field
-abbrev pub kinds_with : Kinds → ℕ → ValueRef → Kinds
+abbrev pub kinds_with : Kinds → ℕ → Value → Kinds
 kinds_with Nothing number meaning = One number meaning
 kinds_with (One first_number old) number meaning = if first_number == number then One number meaning else Several
 kinds_with Several number meaning = Several

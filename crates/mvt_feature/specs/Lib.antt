@@ -4,7 +4,6 @@ pub mod Selection
 pub mod Forms
 pub mod Texts
 pub mod Values
-pub mod ValueRefs
 pub mod ValueRules
 pub mod ValueIn
 pub mod Features

@@ -1,7 +1,7 @@
 -- Features whose fields stand in any order, each once, and each as it is to be written (Mapbox Vector Tile Specification 2.1, 4.1).
 use Rattle.std.specs.Prelude.{◌≡◌, ℕ, ◌^◌, ◌<◌, List, [], ◌∷◌, ◌++◌, drop, IfSome}
 use Rattle.std.specs.List.{AllByRecursion}
-use Rattle.mvt_attrs.specs.declared.value.Value.{Value}
+use Rattle.mvt_attrs.specs.Values.{Value}
 use Rattle.mvt_attrs.specs.FirstUses.{AreFirstUses}
 use Rattle.mvt_attrs.specs.TagPlaces.{tags_in}
 use Rattle.mvt_attrs.specs.Tags.{Names}
@@ -17,7 +17,6 @@ use Rattle.mvt_feature.specs.declared.feature.Feature.{Feature}
 use Rattle.mvt_feature.specs.declared.numbers.feature.TheConstants.{GEOMETRY}
 use Rattle.mvt_feature.specs.Canonical.{plain, id_fields, type_fields, feature_fields}
 use Rattle.mvt_feature.specs.Copying.{AreReady, packed_tags, parts_fields}
-use Rattle.mvt_feature.specs.Features.{IsFeatureOf}
 use Rattle.mvt_feature.specs.Selection.{AreAlike}
 use Rattle.mvt_feature.specs.Valid.{ValidFeature}
 
@@ -66,12 +65,3 @@ IsOfPartsAfter p keys values used Holds known =
     AreReady keys values used
     → (f : Feature) × IsOfParts p keys values used known.used f × (f.id ≡ known.fields.id) × (known.fields.kind ≡ kind_of f.geometry)
     × Holds f.geometry
-
--- the feature of a payload, which uses keys and values in order, was written
-pub record IsOrdered (payload : List ℕ) (keys : List (List ℕ)) (values : List Value) (used after : ℕ × ℕ) (before out : List ℕ) : Type 0
-  where
-    pub feature : Feature
-    pub is : IsFeatureOf payload keys values feature
-    pub valid : ValidFeature feature
-    pub uses : AreFirstUses keys values feature.attributes used.0 used.1 after
-    pub written : out ≡ before ++ spelled (feature_fields (tags_in keys values feature.attributes) feature)

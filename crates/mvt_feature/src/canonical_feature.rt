@@ -2,7 +2,7 @@
 //! 2.1, 4.1).
 ghost use Rattle.std.specs.Prelude.{◌≡◌, ◌≢◌, ◌^◌, ◌<◌, ◌≤◌, ◌+◌, ◌*◌, ◌++◌, ℕ, List, length, drop, IfOk, IfErr, IfSome, IsTrue, IsUtf8, OnOk};
 ghost use Rattle.std.specs.List.{AllByRecursion};
-ghost use Rattle.mvt_attrs.specs.declared.value.Value.{Value as AValue};
+ghost use Rattle.mvt_attrs.specs.Values.{Value as AValue};
 ghost use Rattle.mvt_geometry.specs.declared.shape.Kind.TheVariants as kinds;
 ghost use Rattle.mvt_geometry.specs.declared.shape.Point.{Point as APoint};
 ghost use Rattle.mvt_geometry.specs.Visiting.{HasDrawn, Part};
@@ -242,7 +242,7 @@ pub fn judge_canonical<V: GeometryVisitor>(
 }
 
 /// The same for a payload that has these parts in the canonical order.
-pub(crate) fn judge_parts<V: GeometryVisitor>(
+fn judge_parts<V: GeometryVisitor>(
     alloc: Global,
     visitor: &mut V,
     parts: &Parts<'_>,

@@ -2,7 +2,7 @@
 //! Specification 2.1, 4.2).
 ghost use Rattle.std.specs.Prelude.{◌≡◌, ℕ, List, OnErr, OnOk};
 ghost use Rattle.mvt_base.specs.Related.{Extends};
-ghost use Rattle.mvt_attrs.specs.declared.value.Value.{Value};
+ghost use Rattle.mvt_attrs.specs.Values.{Value};
 ghost use Rattle.mvt_attrs.specs.Tags.{Names};
 ghost use Rattle.mvt_attrs.specs.Using.{HasUses};
 ghost use Rattle.mvt_feature.specs.declared.feature.Feature.{Feature};
@@ -28,7 +28,7 @@ pub fn append_drawn_feature(
     tags: &[u32],
     kind: Kind,
     integers: &PackedNumbers,
-    uses: &mut LayerEntries,
+    uses: &mut LayerEntries<'_>,
     scratch: &mut Scratch,
     out: &mut Vec<u8>,
 ) -> Result<(), AllocError>

@@ -1,7 +1,7 @@
 //! Reading features (Mapbox Vector Tile Specification 2.1, 4.1, message Feature).
 ghost use Rattle.std.specs.Prelude.{◌≡◌, ◌≢◌, ◌⊎◌, ◌+◌, ◌^◌, ◌<◌, List, length, None, IfOk, IfErr, IsErrOf, OnOk};
 ghost use Rattle.mvt_base.specs.Reports.{Reports};
-ghost use Rattle.mvt_attrs.specs.declared.value.Value.{Value};
+ghost use Rattle.mvt_attrs.specs.Values.{Value};
 ghost use Rattle.mvt_geometry.specs.Visiting.{HasDrawn};
 ghost use Rattle.mvt_feature.specs.Faults.{fault_of};
 ghost use Rattle.mvt_feature.specs.Drawn.{tags_of, IsDrawnOf};

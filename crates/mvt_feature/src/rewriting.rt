@@ -3,7 +3,7 @@
 ghost use Rattle.std.specs.Prelude.{◌≡◌, ◌⊎◌, ℕ, ◌+◌, ◌^◌, ◌<◌, ◌++◌, List, length, None, IfOk, IfErr, IfNone, IfSome, IsErrOf, OnErr, OnOk, OnSome};
 ghost use Rattle.mvt_base.specs.Related.{Extends};
 ghost use Rattle.mvt_base.specs.Reports.{Reports};
-ghost use Rattle.mvt_attrs.specs.declared.value.Value.{Value};
+ghost use Rattle.mvt_attrs.specs.Values.{Value};
 ghost use Rattle.mvt_attrs.specs.declared.value.Attribute.{Attribute};
 ghost use Rattle.mvt_attrs.specs.TagPlaces.{tags_in};
 ghost use Rattle.mvt_attrs.specs.Tags.{Names, Resolved};
@@ -27,7 +27,7 @@ use crate::canonical_feature::Parts;
 use crate::feature_fields::FeatureFields;
 use crate::message_error::MessageError;
 use crate::numbers::feature;
-use crate::ordered_feature::parts_in_any_order;
+use crate::parts::parts_in_any_order;
 use crate::reading::judge_into_scratch;
 use crate::scratch::Scratch;
 use crate::writing::{append_front, append_packed};
@@ -53,7 +53,7 @@ pub fn rewrite_usual_feature<V: GeometryVisitor>(
     visitor: &mut V,
     payload: &[u8],
     keys: &mut LayerKeys<'_>,
-    uses: &mut LayerEntries,
+    uses: &mut LayerEntries<'_>,
     scratch: &mut Scratch,
     out: &mut Vec<u8>,
 ) -> Result<Option<FeatureFields>, AllocError>
@@ -99,7 +99,7 @@ pub fn rewrite_usual_feature<V: GeometryVisitor>(
 /// Appends the canonical payload of a feature of these parts, whose tags are in the scratch.
 fn append_usual(
     parts: &Parts<'_>,
-    uses: &mut LayerEntries,
+    uses: &mut LayerEntries<'_>,
     scratch: &mut Scratch,
     out: &mut Vec<u8>,
 ) -> Result<(), AllocError>
@@ -120,7 +120,7 @@ fn append_usual(
 }
 
 /// Writes the tags that those of the scratch become, and marks what they name as used.
-fn use_tags(uses: &mut LayerEntries, scratch: &mut Scratch) -> Result<(), AllocError>
+fn use_tags(uses: &mut LayerEntries<'_>, scratch: &mut Scratch) -> Result<(), AllocError>
     ensures uses { (keys : List (List ℕ)) (held : List Value) (attributes : List Attribute)
         → HasUses uses.old keys held → Names keys held scratch.old.tags.items attributes
         → OnOk result (HasUses uses.new keys held) }
@@ -150,7 +150,7 @@ pub fn rewrite_feature(
     payload: &[u8],
     payload_at: u64,
     keys: &mut LayerKeys<'_>,
-    uses: &mut LayerEntries,
+    uses: &mut LayerEntries<'_>,
     scratch: &mut Scratch,
     out: &mut Vec<u8>,
 ) -> Result<FeatureFields, MessageError>
@@ -182,7 +182,7 @@ pub fn rewrite_feature(
 /// has the tags and the integers.
 fn append_judged(
     known: &FeatureFields,
-    uses: &mut LayerEntries,
+    uses: &mut LayerEntries<'_>,
     scratch: &mut Scratch,
     out: &mut Vec<u8>,
 ) -> Result<(), AllocError>

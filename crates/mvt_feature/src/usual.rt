@@ -2,7 +2,7 @@
 //! are judged in their bytes, without lists.
 ghost use Rattle.std.specs.Prelude.{◌≡◌, ◌+◌, ◌^◌, ◌<◌, ℕ, List, [], length, None, IfOk, IfErr, IfSome, IfNone, IsErrOf, OnErr, OnOk, OnSome};
 ghost use Rattle.mvt_base.specs.Reports.{Reports};
-ghost use Rattle.mvt_attrs.specs.declared.value.Value.{Value};
+ghost use Rattle.mvt_attrs.specs.Values.{Value};
 ghost use Rattle.mvt_geometry.specs.declared.shape.Point.{Point as APoint};
 ghost use Rattle.mvt_geometry.specs.Visiting.{HasDrawn, Part};
 ghost use Rattle.mvt_feature.specs.Drawn.{tags_of, IsDrawnOf};
@@ -12,7 +12,7 @@ ghost use Rattle.mvt_feature.specs.Listing.{ListsNumbers};
 
 use crate::feature_fields::FeatureFields;
 use crate::message_error::MessageError;
-use crate::ordered_feature::parts_in_any_order;
+use crate::parts::parts_in_any_order;
 use crate::reading::judge_into_scratch;
 use crate::scratch::Scratch;
 use mvt_attrs::{LayerKeys, NoTags, PackedTags, TagVisitor, judge_packed};

@@ -5,20 +5,18 @@ ghost use Rattle.mvt_base.specs.Reports.{Reports};
 ghost use Rattle.mvt_base.specs.Rules.{each, first};
 ghost use Rattle.mvt_wire.specs.Field.{entry_of, content_of, varint, fixed64, fixed32, bytes};
 ghost use Rattle.mvt_wire.specs.Split.{split};
-ghost use Rattle.mvt_attrs.specs.declared.value.Value.TheVariants as values;
+ghost use Rattle.mvt_attrs.specs.declared.value.ValueOf.TheVariants as values;
 ghost use Rattle.mvt_feature.specs.Faults.{fault_of, rest_rules};
 ghost use Rattle.mvt_feature.specs.Forms.{any_varint, float, double, string, form_rules, number_rules};
 ghost use Rattle.mvt_feature.specs.Values.{value_forms, Means, IsValueOf};
 ghost use Rattle.mvt_feature.specs.ValueRules.{is_kind, value_field_rules, value_fault};
-ghost use Rattle.mvt_feature.specs.ValueRefs.{referred_value};
 ghost use Rattle.mvt_feature.specs.Inner.{kinds_with, AreKinds};
 
 use crate::cause::Cause;
 use crate::message_error::MessageError;
 use crate::numbers::value;
 use crate::rest_faults::{fault_at, rest_fault, rest_fault_before};
-use mvt_attrs::Value;
-use mvt_base::Text;
+use mvt_attrs::{TextRef, Value, ValueRef};
 use mvt_wire::{Field, Fields, Payload, next_field, unzigzag64};
 use std::alloc::{AllocError, Global};
 use std::str;
@@ -37,18 +35,6 @@ pub(crate) const UINT_TAG: u8 = 0x28;
 pub(crate) const SINT_TAG: u8 = 0x30;
 
 pub(crate) const BOOL_TAG: u8 = 0x38;
-
-/// A value whose text is lent (Mapbox Vector Tile Specification 2.1, 4.1, message Value).
-#[derive(Clone, Copy, Debug)]
-pub enum ValueRef<'a> {
-    Text(&'a str),
-    Float(u32),
-    Double(u64),
-    Int(i64),
-    Uint(u64),
-    Sint(i64),
-    Bool(bool),
-}
 
 /// The value of a payload.
 ///
@@ -73,7 +59,7 @@ pub fn read_value(
     ensures memory { IsErrOf result MessageError.Memory
         → (text : List ℕ) × IsValueOf payload.now (values.Text text) × (14 < length text) }
 {
-    Ok(read_value_ref(payload, payload_at, tag_at)?.into_value(alloc)?)
+    Ok(read_value_ref(payload, payload_at, tag_at)?.kept(alloc)?)
 }
 
 /// Whether a payload is a value, without memory.
@@ -104,7 +90,7 @@ pub fn read_value_ref(
     tag_at: u64,
 ) -> Result<ValueRef<'_>, MessageError>
     requires { payload_at + length payload.now < 2 ^ 64 }
-    ensures value { IfOk result (λ meaning. IsValueOf payload.now (referred_value meaning)) }
+    ensures value { IfOk result (IsValueOf payload.now) }
     ensures ok { OnOk result (value_fault payload.now payload_at tag_at ≡ None) }
     ensures err { IfErr result (λ error. Reports (fault_of error)
         (value_fault payload.now payload_at tag_at)) }
@@ -124,7 +110,7 @@ pub fn read_value_ref(
 /// tells its form, so that each of these calls reads one form alone. `None` costs speed alone.
 #[inline(always)]
 fn only_meaning(payload: &[u8]) -> Option<ValueRef<'_>>
-    ensures { IfSome result (λ meaning. IsValueOf payload.now (referred_value meaning)) }
+    ensures { IfSome result (IsValueOf payload.now) }
 {
     match payload.first() {
         Some(&STRING_TAG) => only_field(payload, value::STRING),
@@ -141,7 +127,7 @@ fn only_meaning(payload: &[u8]) -> Option<ValueRef<'_>>
 /// The same, if the number of the field is this one.
 #[inline(always)]
 fn only_field(payload: &[u8], number: u32) -> Option<ValueRef<'_>>
-    ensures { IfSome result (λ meaning. IsValueOf payload.now (referred_value meaning)) }
+    ensures { IfSome result (IsValueOf payload.now) }
 {
     let Ok(Some((field, after))) = next_field(payload, 0) else {
         return None;
@@ -156,7 +142,7 @@ fn only_field(payload: &[u8], number: u32) -> Option<ValueRef<'_>>
 }
 
 /// The kinds of value among the fields of a payload.
-#[derive(Clone, Copy, Debug)]
+#[derive(Debug, Drop)]
 enum Kinds<'a> {
     Nothing,
     /// Only this one, and what its last field says.
@@ -206,25 +192,6 @@ impl<'a> Kinds<'a> {
     }
 }
 
-impl ValueRef<'_> {
-    fn into_value(self, alloc: Global) -> Result<Value, AllocError>
-        ensures same { IfOk result (λ value. value ≡ referred_value self.entry) }
-        ensures memory { OnErr result ((text : List ℕ)
-            × (referred_value self.entry ≡ values.Text text)
-            × (14 < length text)) }
-    {
-        match self {
-            ValueRef::Text(text) => Ok(Value::Text(Text::from_str(alloc, text)?)),
-            ValueRef::Float(bits) => Ok(Value::Float(bits)),
-            ValueRef::Double(bits) => Ok(Value::Double(bits)),
-            ValueRef::Int(number) => Ok(Value::Int(number)),
-            ValueRef::Uint(number) => Ok(Value::Uint(number)),
-            ValueRef::Sint(number) => Ok(Value::Sint(number)),
-            ValueRef::Bool(truth) => Ok(Value::Bool(truth)),
-        }
-    }
-}
-
 /// What a field says, if it is of one of the seven kinds.
 #[inline(always)]
 fn meaning_of<'a>(field: &Field<'a>) -> Result<Option<ValueRef<'a>>, Cause>
@@ -233,13 +200,13 @@ fn meaning_of<'a>(field: &Field<'a>) -> Result<Option<ValueRef<'a>>, Cause>
     ensures means { IfOk result (λ meaning. MatchOption meaning
         (is_kind (entry_of field.now) ≡ false)
         (λ m. (is_kind (entry_of field.now) ≡ true)
-        × Means field.now.number (content_of field.now.payload) (referred_value m))) }
+        × Means field.now.number (content_of field.now.payload) m)) }
     ensures err { IfErr result (λ cause. first
         (number_rules value_forms field.now.number (content_of field.now.payload)) ≡ Some cause) }
 {
     let payload = &field.payload;
     let meaning = match field.number {
-        value::STRING => ValueRef::Text(text_of(payload)?),
+        value::STRING => ValueRef::Text(TextRef::of(text_of(payload)?)),
         value::FLOAT => ValueRef::Float(fixed32_of(payload)?),
         value::DOUBLE => ValueRef::Double(fixed64_of(payload)?),
         value::INT => ValueRef::Int(varint_of(payload)?.cast_signed()),

@@ -13,7 +13,7 @@ ghost use Rattle.mvt_feature.specs.Rewriting.{IsRewritten};
 use crate::feature::Feature;
 use crate::numbers::{feature, value};
 use crate::scratch::Scratch;
-use mvt_attrs::{LayerEntries, PoolError, Value};
+use mvt_attrs::{LayerEntries, PoolError, ValueRef};
 use mvt_base::LIMIT;
 use mvt_geometry::{Kind, append_geometry, kind_of};
 use mvt_wire::{PackedNumbers, Payload, field_len, put_field, put_packed, varint_len, zigzag64};
@@ -25,33 +25,41 @@ use std::mem::swap;
 /// # Errors
 ///
 /// When memory runs out; the list is then unchanged.
-pub fn append_value(out: &mut Vec<u8>, value: &Value) -> Result<(), AllocError>
+pub fn append_value(out: &mut Vec<u8>, value: &ValueRef<'_>) -> Result<(), AllocError>
     ensures ok { OnOk result (out.new.items ≡ out.old.items ++ spelled (value_fields value.now)) }
     ensures err { OnErr result (out.new.items ≡ out.old.items) }
 {
     match value {
-        Value::Text(text) => put_field(out, value::STRING, &Payload::Len(text.as_str().as_bytes())),
-        Value::Float(bits) => put_field(out, value::FLOAT, &Payload::I32(*bits)),
-        Value::Double(bits) => put_field(out, value::DOUBLE, &Payload::I64(*bits)),
-        Value::Int(number) => put_field(out, value::INT, &Payload::Varint(number.cast_unsigned())),
-        Value::Uint(number) => put_field(out, value::UINT, &Payload::Varint(*number)),
-        Value::Sint(number) => put_field(out, value::SINT, &Payload::Varint(zigzag64(*number))),
-        Value::Bool(truth) => put_field(out, value::BOOL, &Payload::Varint(u64::from(*truth))),
+        ValueRef::Text(text) => put_field(
+            out,
+            value::STRING,
+            &Payload::Len(text.as_str().as_bytes()),
+        ),
+        ValueRef::Float(bits) => put_field(out, value::FLOAT, &Payload::I32(*bits)),
+        ValueRef::Double(bits) => put_field(out, value::DOUBLE, &Payload::I64(*bits)),
+        ValueRef::Int(number) => put_field(
+            out,
+            value::INT,
+            &Payload::Varint(number.cast_unsigned()),
+        ),
+        ValueRef::Uint(number) => put_field(out, value::UINT, &Payload::Varint(*number)),
+        ValueRef::Sint(number) => put_field(out, value::SINT, &Payload::Varint(zigzag64(*number))),
+        ValueRef::Bool(truth) => put_field(out, value::BOOL, &Payload::Varint(u64::from(*truth))),
     }
 }
 
 /// How long the payload of a value is.
-pub fn value_len(value: &Value) -> u64
+pub fn value_len(value: &ValueRef<'_>) -> u64
     ensures { result ≡ length (spelled (value_fields value.now)) }
 {
     match value {
-        Value::Text(text) => field_len(value::STRING, text.as_str().len() as u64),
-        Value::Float(_) => 5,
-        Value::Double(_) => 9,
-        Value::Int(number) => 1 + varint_len(number.cast_unsigned()) as u64,
-        Value::Uint(number) => 1 + varint_len(*number) as u64,
-        Value::Sint(number) => 1 + varint_len(zigzag64(*number)) as u64,
-        Value::Bool(_) => 2,
+        ValueRef::Text(text) => field_len(value::STRING, text.as_str().len() as u64),
+        ValueRef::Float(_) => 5,
+        ValueRef::Double(_) => 9,
+        ValueRef::Int(number) => 1 + varint_len(number.cast_unsigned()) as u64,
+        ValueRef::Uint(number) => 1 + varint_len(*number) as u64,
+        ValueRef::Sint(number) => 1 + varint_len(zigzag64(*number)) as u64,
+        ValueRef::Bool(_) => 2,
     }
 }
 
@@ -62,9 +70,9 @@ pub fn value_len(value: &Value) -> u64
 ///
 /// When memory runs out, or more keys or values are used than a pool may hold. The keys and values
 /// of the attributes up to some place are then used, and the list is unchanged or longer.
-pub fn append_feature(
-    feature: &Feature,
-    uses: &mut LayerEntries,
+pub fn append_feature<'a>(
+    feature: &'a Feature,
+    uses: &mut LayerEntries<'a>,
     scratch: &mut Scratch,
     out: &mut Vec<u8>,
 ) -> Result<(), PoolError>

@@ -85,13 +85,20 @@ impl FeatureVisitor for Told {
     }
 }
 
+// A short payload made canonical.
+fn rewritten(alloc: Global, payload: &[u8]) -> Result<Rewritten<'_, Told>, MessageError> {
+    if payload.len() > 1000 {
+        return Err(MessageError::Memory);
+    }
+    let mut rewriter = LayerRewriter::new(alloc, Told::new(alloc), payload.len())?;
+    let visited = visit_version_2(alloc, &mut rewriter, payload, 2, 0)?;
+    Ok(rewriter.finish(visited))
+}
+
 // Whether a short payload is made canonical as it stands, by features that are told so.
 fn is_rewritten_as(alloc: Global, payload: &[u8], told: &Told) -> bool {
-    if payload.len() > 1000 {
-        return false;
-    }
     let mut out = Vec::new(alloc);
-    match rewrite_parts(alloc, Told::new(alloc), payload, 2, 0) {
+    match rewritten(alloc, payload) {
         Ok(Rewritten::Layer(layer)) => {
             layer.append_head(&mut out).is_ok()
                 && out.extend_from_slice(layer.features()).is_ok()

@@ -59,19 +59,17 @@ fn make_anew(alloc: Global, payload: &[u8], out: &mut Vec<u8>) -> Result<(), Mes
     if payload.len() > 1000 {
         return Err(MessageError::Memory);
     }
-    match rewrite_parts(alloc, Ignore, payload, 2, 0) {
-        Ok(Rewritten::Layer(layer)) => {
+    let mut rewriter = LayerRewriter::new(alloc, Ignore, payload.len())?;
+    let visited = visit_version_2(alloc, &mut rewriter, payload, 2, 0)?;
+    match rewriter.finish(visited) {
+        Rewritten::Layer(layer) => {
             layer.append_head(out)?;
             out.extend_from_slice(layer.features())?;
             layer.append_tail(out)?;
-            Ok(())
         }
-        Ok(Rewritten::Foreign(_)) => {
-            out.extend_from_slice(payload)?;
-            Ok(())
-        }
-        Err(error) => Err(error),
+        Rewritten::Foreign(_) => out.extend_from_slice(payload)?,
     }
+    Ok(())
 }
 
 fn rewrite_short(alloc: Global, payload: &[u8], out: &mut Vec<u8>) -> Result<(), MessageError> {

@@ -3,7 +3,9 @@ ghost use Rattle.mvt_geometry.specs.Valid.{IsValid};
 
 use crate::expect::{expect, expect_eq};
 use crate::support::{KEYS, feature_with, made_with, point, repeated_keys};
-use mvt_attrs::{Attribute, LayerEntries, LayerKeys, PoolError, Value, lend_texts};
+use mvt_attrs::{
+    Attribute, LayerEntries, LayerKeys, PoolError, TextRef, Value, ValueRef, lend_texts,
+};
 use mvt_base::{Items, Text};
 use mvt_feature::*;
 use mvt_geometry::Geometry;
@@ -187,13 +189,11 @@ fn refuses_features(rt: HostRuntime) {
 #[test]
 fn writes_values(rt: HostRuntime) {
     let mut out = Vec::new(rt.alloc());
-    expect_eq!(rt; append_value(&mut out, &Value::Bool(true)), Ok(()));
-    expect_eq!(rt; append_value(&mut out, &Value::Uint(5)), Ok(()));
+    expect_eq!(rt; append_value(&mut out, &ValueRef::Bool(true)), Ok(()));
+    expect_eq!(rt; append_value(&mut out, &ValueRef::Uint(5)), Ok(()));
     expect_eq!(rt; out.as_slice(), [0x38, 0x01, 0x28, 0x05].as_slice());
     drop(out);
-    let text = Value::Text(Text::from_str(rt.alloc(), "a").expect(&rt, "a text"));
-    expect_eq!(rt; value_len(&text), 3);
-    drop(text);
+    expect_eq!(rt; value_len(&ValueRef::Text(TextRef::of("a"))), 3);
 }
 
 // What is appended of a feature, in a layer that has nothing yet.

@@ -30,23 +30,20 @@ fn values(alloc: Global, size: u8, different: u8) -> Result<Vec<Value>, AllocErr
     Ok(values)
 }
 
-fn add(
+fn add<'a>(
     alloc: Global,
-    writer: &mut LayerWriter,
-    values: Vec<Value>,
+    writer: &mut LayerWriter<'a>,
+    values: &'a [Value],
     way: Way,
 ) -> Result<(), AllocError> {
-    match way {
-        Way::OneByOne => {
-            for value in values {
-                let mut one = Vec::new(alloc);
-                one.push(value)?;
-                writer.take_values(one)?;
-            }
-            Ok(())
+    let mut all = Vec::new(alloc);
+    for value in values {
+        match way {
+            Way::OneByOne => writer.take_values(vec![in alloc; value.lent()]?)?,
+            Way::All => all.push(value.lent())?,
         }
-        Way::All => writer.take_values(values),
     }
+    writer.take_values(all)
 }
 
 // The integers of the point (25,17).
@@ -67,8 +64,9 @@ fn payload(
     way: Way,
 ) -> Result<Option<Vec<u8>>, AllocError> {
     let integers = drawing(alloc)?;
+    let values = values(alloc, size, different)?;
     let mut writer = LayerWriter::new(alloc);
-    add(alloc, &mut writer, values(alloc, size, different)?, way)?;
+    add(alloc, &mut writer, &values, way)?;
     writer.add_keys(&["key"])?;
     let mut scratch = Scratch::new(alloc);
     for value in used {

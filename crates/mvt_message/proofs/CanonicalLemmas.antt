@@ -10,7 +10,7 @@ use Rattle.mvt_base.specs.Related.{AreRelated}
 use Rattle.mvt_base.proofs.ListLemmas.{all_weaker, all_joined, all_left, all_right, all_mapped, all_unmapped, all_true, mapped_one}
 use Rattle.mvt_base.proofs.SelectionLemmas.{all_only}
 use Rattle.mvt_attrs.specs.declared.value.Attribute.{Attribute}
-use Rattle.mvt_attrs.specs.declared.value.Value.{Value}
+use Rattle.mvt_attrs.specs.Values.{Value}
 use Rattle.mvt_attrs.specs.Pools.{key_pool, value_pool}
 use Rattle.mvt_attrs.specs.TagPlaces.{tags_in, IsIn}
 use Rattle.mvt_wire.specs.Field.{Content, varint, bytes, fixed64, fixed32, Entry}

@@ -7,7 +7,7 @@ use Rattle.std.specs.Prelude.{IsUtf8}
 use Rattle.std.specs.List.{AllByRecursion}
 use Rattle.mvt_base.specs.declared.TheConstants.{LIMIT}
 use Rattle.mvt_base.proofs.ListLemmas.{all_joined, all_right}
-use Rattle.mvt_attrs.specs.declared.value.Value.{Value}
+use Rattle.mvt_attrs.specs.Values.{Value}
 use Rattle.mvt_attrs.specs.FirstUse.{AreDistinct}
 use Rattle.mvt_attrs.specs.FirstUses.{lent}
 use Rattle.mvt_attrs.specs.Pools.{key_pool, value_pool}
@@ -124,29 +124,6 @@ features_from_more WereTold AreTold body start at after keys values used more pa
       };
       told = told;
     }
-
-pub told_weaker : (WereTold AreTold : List Feature → Type 0) (body : List ℕ) (start at : ℕ) (keys : List (List ℕ)) (values : List Value)
-    (used : ℕ × ℕ)
-    → AreFeaturesFrom WereTold body start keys values at used → ((features : List Feature) → WereTold features → AreTold features)
-    → AreFeaturesFrom AreTold body start keys values at used
-told_weaker WereTold AreTold body start at keys values used from weaker = record {
-  features = from.features;
-  fields = from.fields;
-  valid = from.valid;
-  keys_are = from.keys_are;
-  values_are = from.values_are;
-  ready = from.ready;
-  told = weaker from.features from.told;
-}
-
-pub reached_from : (WereTold AreTold : List Feature → Type 0) (body : List ℕ) (start at other : ℕ) (keys : List (List ℕ))
-    (values : List Value)
-    (used same : ℕ × ℕ) → AreFeaturesFrom WereTold body start keys values at used → other ≡ at → same ≡ used
-    → ((features : List Feature) → WereTold features → AreTold features) → AreFeaturesFrom AreTold body start keys values other same
-reached_from WereTold AreTold body start at other keys values used same from here is weaker =
-    subst (λ a. AreFeaturesFrom AreTold body start keys values a same) (sym here)
-    (subst (λ u. AreFeaturesFrom AreTold body start keys values at u) (sym is)
-    (told_weaker WereTold AreTold body start at keys values used from weaker))
 
 -- values whose payloads are different are different
 get_or-mapped : {X Y : Type 0} → (f : X → Y) (xs : List X) (i : ℕ) (d : X) → get_or (map f xs) i (f d) ≡ f (get_or xs i d)

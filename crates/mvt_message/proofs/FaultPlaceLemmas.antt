@@ -6,7 +6,7 @@ use Rattle.std.proofs.lemmas.Option.{none-some, same_Some}
 use Rattle.mvt_base.specs.Rules.{Rules, when, each, first}
 use Rattle.mvt_base.proofs.RuleLemmas.{each_first, first-map_faults, option_or-none, option_or-right, option_or-some}
 use Rattle.mvt_base.proofs.TableLemmas.{first-rows_all}
-use Rattle.mvt_attrs.specs.declared.value.Value.{Value}
+use Rattle.mvt_attrs.specs.Values.{Value}
 use Rattle.mvt_wire.specs.Field.{Entry}
 use Rattle.mvt_wire.specs.Split.{Parts, split}
 use Rattle.mvt_feature.specs.declared.cause.Cause.{Cause}

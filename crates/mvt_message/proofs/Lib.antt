@@ -13,7 +13,6 @@ mod PoolLemmas
 mod PutLemmas
 mod HeldLemmas
 mod VisitLemmas
-mod ResumeLemmas
 mod RewriteLemmas
 mod NamingLemmas
 mod ExtentLemmas

@@ -4,7 +4,7 @@ use Rattle.std.proofs.lemmas.Grind.{flat_map-append}
 use Rattle.std.proofs.lemmas.List.{take-append-drop}
 use Rattle.mvt_base.proofs.ListLemmas.{front_more}
 use Rattle.mvt_attrs.specs.declared.value.Attribute.{Attribute}
-use Rattle.mvt_attrs.specs.declared.value.Value.{Value}
+use Rattle.mvt_attrs.specs.Values.{Value}
 use Rattle.mvt_attrs.specs.FirstUse.{AreDistinct}
 use Rattle.mvt_attrs.specs.Pools.{key_pool, value_pool}
 use Rattle.mvt_attrs.proofs.AttrsLaws.{pool_entries_distinct_keys, pool_entries_distinct_values, pools_by_parts_keys, pools_by_parts_values, pools_grow_keys, pools_grow_values}

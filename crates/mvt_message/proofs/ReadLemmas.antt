@@ -14,7 +14,7 @@ use Rattle.mvt_base.proofs.ReportsLemmas.{reports_as, reports_or, or_reports}
 use Rattle.mvt_base.proofs.ListLemmas.{related-append}
 use Rattle.mvt_base.proofs.RuleLemmas.{each_more, each_stops, first-map_faults, first-when, first-when_not, option_or-none, option_or-nones, option_or-some}
 use Rattle.mvt_base.proofs.SelectionLemmas.{last_only-more}
-use Rattle.mvt_attrs.specs.declared.value.Value.{Value}
+use Rattle.mvt_attrs.specs.Values.{Value}
 use Rattle.mvt_wire.specs.declared.fault.WireFault.{WireFault}
 use Rattle.mvt_wire.specs.Field.{Entry}
 use Rattle.mvt_wire.specs.Fields.{GivesEntry}

@@ -3,7 +3,7 @@
 use Rattle.std.specs.Prelude.{ℕ, List, [], ◌∷◌, ◌++◌, map}
 use Rattle.std.specs.List.{flat_map}
 use Rattle.mvt_attrs.specs.declared.value.Attribute.{Attribute}
-use Rattle.mvt_attrs.specs.declared.value.Value.{Value}
+use Rattle.mvt_attrs.specs.Values.{Value}
 use Rattle.mvt_attrs.specs.Pools.{key_pool, value_pool}
 use Rattle.mvt_attrs.specs.TagPlaces.{tags_in}
 use Rattle.mvt_wire.specs.Field.{varint, bytes}

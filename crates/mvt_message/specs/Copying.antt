@@ -3,7 +3,7 @@
 use Rattle.std.specs.Prelude.{◌≡◌, ℕ, ◌≤◌, List, ◌++◌, length, map, drop, take, IsTrue, IsUtf8}
 use Rattle.std.specs.Borrow.{Bor}
 use Rattle.std.specs.List.{AllByRecursion}
-use Rattle.mvt_attrs.specs.declared.value.Value.{Value}
+use Rattle.mvt_attrs.specs.Values.{Value}
 use Rattle.mvt_attrs.specs.FirstUse.{AreDistinct}
 use Rattle.mvt_attrs.specs.FirstUses.{lent}
 use Rattle.mvt_wire.specs.Field.{bytes}
@@ -56,6 +56,12 @@ IsCopied payload name canonical =
 -- the fields that are copied
 abbrev pub copied_core : CopiedLayer → List ℕ
 copied_core layer = layer.front.now ++ layer.values.now
+
+-- the layer of this frame, whose features were told
+abbrev pub IsLayerIn : (List Feature → Type 0) → List ℕ → Frame → CopiedLayer → Type 0
+IsLayerIn WereTold body frame layer =
+    IsCoreOf WereTold body frame.features_at frame.front.end_at (copied_core layer)
+    × (layer.name.now ≡ frame.name.now) × (layer.extent ≡ frame.extent)
 
 -- the payload that is made
 abbrev pub copied_payload : CopiedLayer → List ℕ

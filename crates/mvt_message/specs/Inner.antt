@@ -4,7 +4,7 @@ use Rattle.std.specs.Option.{option_or, option_copied}
 use Rattle.mvt_base.specs.Reports.{Reports}
 use Rattle.mvt_base.specs.Related.{AreRelated}
 use Rattle.mvt_base.specs.Rules.{when, rows, each, first}
-use Rattle.mvt_attrs.specs.declared.value.Value.{Value}
+use Rattle.mvt_attrs.specs.Values.{Value}
 use Rattle.mvt_attrs.specs.FirstUses.{lent}
 use Rattle.mvt_wire.specs.Field.{Content, Entry}
 use Rattle.mvt_wire.specs.Split.{split}

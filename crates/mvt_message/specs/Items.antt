@@ -2,7 +2,7 @@
 -- their bytes.
 use Rattle.std.specs.Prelude.{◌≡◌, ◌≢◌, ℕ, List, [], ◌∷◌, Some}
 use Rattle.mvt_base.specs.Related.{AreRelated}
-use Rattle.mvt_attrs.specs.declared.value.Value.{Value}
+use Rattle.mvt_attrs.specs.Values.{Value}
 use Rattle.mvt_wire.specs.Field.{Entry}
 use Rattle.mvt_wire.specs.Split.{Whole}
 use Rattle.mvt_feature.specs.declared.feature.Feature.{Feature}

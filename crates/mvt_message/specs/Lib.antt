@@ -5,7 +5,6 @@ pub mod CanonicalItems
 pub mod ValidItems
 pub mod PutErrors
 pub mod Visiting
-pub mod Resuming
 pub mod Around
 pub mod Rewriting
 pub mod Copying

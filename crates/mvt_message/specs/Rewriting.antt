@@ -1,7 +1,7 @@
 -- A layer that is made canonical: its features are written after one another while others may follow.
 use Rattle.std.specs.Prelude.{◌≡◌, ◌≢◌, ℕ, ◌<◌, List, [], ◌++◌, length, map, Option, MatchOption, Vec}
 use Rattle.std.specs.Global.{Global}
-use Rattle.mvt_attrs.specs.declared.value.Value.{Value}
+use Rattle.mvt_attrs.specs.Values.{Value}
 use Rattle.mvt_attrs.specs.declared.used_entries.LayerEntries.{LayerEntries}
 use Rattle.mvt_attrs.specs.Using.{HasUses, used_of}
 use Rattle.mvt_wire.specs.Spelling.{spelled}
@@ -9,11 +9,13 @@ use Rattle.mvt_feature.specs.declared.feature.Feature.{Feature}
 use Rattle.mvt_message.specs.declared.layer_writer.LayerWriter.{LayerWriter}
 use Rattle.mvt_message.specs.declared.item.Layer.{Layer as ALayer}
 use Rattle.mvt_message.specs.declared.item.Item.TheVariants as items
+use Rattle.mvt_message.specs.declared.layer_rewriting.LayerRewriter.{LayerRewriter}
 use Rattle.mvt_message.specs.declared.layer_rewriting.Rewritten.{Rewritten}
 use Rattle.mvt_message.specs.declared.layer_rewriting.Rewritten.TheVariants.{Layer, Foreign}
 use Rattle.mvt_message.specs.CanonicalItems.{canonical_item, keys_of, values_of, head_fields, feature_field, key_field, value_field, extent_fields}
 use Rattle.mvt_message.specs.Items.{IsItem}
 use Rattle.mvt_message.specs.ValidItems.{ValidItem}
+use Rattle.mvt_message.specs.Visiting.{OfFeatures}
 
 -- their fields, whatever features follow
 abbrev pub AreWritten : List Feature → List ℕ → Type 0
@@ -53,6 +55,14 @@ IsPayloadOf limit layer made =
 abbrev pub tail_of : LayerEntries → ℕ → List ℕ
 tail_of uses extent =
     spelled (map key_field (used_of uses.keys)) ++ (spelled (map value_field (used_of uses.values)) ++ spelled (extent_fields extent))
+
+-- a layer's values so far, before it is written; a visitor was told no feature
+abbrev pub HasOnlyValues : {V : Type 0} → (V → List Feature → Type 0) → LayerRewriter V → List Value → Type 0
+HasOnlyValues WasTold r values = (r.values.items ≡ values) × HasGathered r.writer [] × WasTold r.visitor []
+
+-- its features so far, which the visitor was told
+abbrev pub HasRewritten : {V : Type 0} → (V → List Feature → Type 0) → OfFeatures (LayerRewriter V)
+HasRewritten WasTold keys values r payloads features = HasWritten keys values r.writer features × WasTold r.visitor features
 
 -- a payload is the item that was made canonical, of whose features this visitor was told
 abbrev pub IsRewrittenAs : {V : Type 0} → (V → List Feature → Type 0) → List ℕ → Rewritten V → Type 0

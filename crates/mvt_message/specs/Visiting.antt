@@ -1,6 +1,6 @@
 -- What the walk over an item tells its visitor and its caller.
 use Rattle.std.specs.Prelude.{◌≡◌, ℕ, List}
-use Rattle.mvt_attrs.specs.declared.value.Value.{Value}
+use Rattle.mvt_attrs.specs.Values.{Value}
 use Rattle.mvt_wire.specs.Field.{Entry}
 use Rattle.mvt_wire.specs.Split.{split}
 use Rattle.mvt_feature.specs.declared.feature.Feature.{Feature}

@@ -7,7 +7,7 @@ ghost use Rattle.mvt_message.specs.Copying.{IsCanonicalLayer, IsFrameOf, IsInPla
 
 use crate::around::{may_end_with_extent, name_at};
 use crate::feature_visitor::FeatureVisitor;
-use crate::layer_copying::{Frame, Seen, bounds_of, end_of, front_of, seen_of};
+use crate::layer_copying::{Frame, bounds_of, end_of, front_of, layer_in};
 use crate::looking::may_begin_in_order;
 use crate::numbers::layer;
 use mvt_base::LIMIT;
@@ -32,16 +32,11 @@ pub fn visit_canonical<'a, V: FeatureVisitor>(
 {
     let frame = frame_in_place(alloc, payload)?;
     let (features_at, end) = bounds_of(&frame);
-    match seen_of(alloc, visitor, payload, frame) {
-        Ok(Seen::All(layer)) => {
-            if features_at + layer.front.len() + layer.values.len() != end {
-                return Err(NotCanonical::Other);
-            }
-            Ok(layer.name)
-        }
-        Ok(Seen::First(_)) => Err(NotCanonical::Other),
-        Err(error) => Err(error),
+    let layer = layer_in(alloc, visitor, payload, frame)?;
+    if features_at + layer.front.len() + layer.values.len() != end {
+        return Err(NotCanonical::Other);
     }
+    Ok(layer.name)
 }
 
 /// The frame of a layer whose version, name and extent stand in the canonical order.

@@ -2,7 +2,7 @@
 //! Specification 2.1, 4.2).
 ghost use Rattle.std.specs.Prelude.{◌≡◌, ℕ, ◌+◌, ◌^◌, ◌<◌, [], ◌∷◌, ◌++◌, List, length, None, IfOk, IfErr, OnOk};
 ghost use Rattle.mvt_base.specs.Reports.{Reports};
-ghost use Rattle.mvt_attrs.specs.declared.value.Value.{Value};
+ghost use Rattle.mvt_attrs.specs.Values.{Value};
 ghost use Rattle.mvt_attrs.specs.Using.{HasUses};
 ghost use Rattle.mvt_geometry.specs.declared.shape.Geometry.{Geometry};
 ghost use Rattle.mvt_geometry.specs.Drawing.{Draws};
@@ -25,7 +25,7 @@ use mvt_geometry::{GeometryVisitor, Kind, draw_geometry};
 use mvt_wire::{Payload, put_field};
 use std::alloc::{AllocError, Global};
 
-impl LayerWriter {
+impl LayerWriter<'_> {
     /// Adds the feature of a payload, in a layer with these keys, and passes it to a visitor.
     ///
     /// # Errors
@@ -76,7 +76,7 @@ fn rewrite_told<V: FeatureVisitor>(
     payload: &[u8],
     payload_at: u64,
     keys: &mut LayerKeys<'_>,
-    uses: &mut LayerEntries,
+    uses: &mut LayerEntries<'_>,
     scratch: &mut Scratch,
     out: &mut Vec<u8>,
 ) -> Result<FeatureFields, MessageError>

@@ -3,7 +3,7 @@ ghost use Rattle.std.specs.Prelude.{◌≡◌, ◌+◌, ◌^◌, ◌<◌, List, 
 ghost use Rattle.std.specs.Option.{option_map};
 ghost use Rattle.mvt_base.specs.Reports.{Reports};
 ghost use Rattle.mvt_base.specs.Related.{AreRelated};
-ghost use Rattle.mvt_attrs.specs.declared.value.Value.{Value};
+ghost use Rattle.mvt_attrs.specs.Values.{Value};
 ghost use Rattle.mvt_attrs.specs.FirstUses.{lent};
 ghost use Rattle.mvt_wire.specs.Field.{Entry, entry_of, content_of};
 ghost use Rattle.mvt_wire.specs.Fields.{bytes_size};
@@ -26,12 +26,12 @@ use std::alloc::Global;
 
 /// Has a visitor take the features of a layer with these keys, this number of values, and so many
 /// features. What stands after the last feature isn't looked at again.
-pub(crate) fn visit_features<V: LayerVisitor>(
+pub(crate) fn visit_features<'a, V: LayerVisitor<'a>>(
     alloc: Global,
     visitor: &mut V,
-    payload: &[u8],
+    payload: &'a [u8],
     payload_at: u64,
-    keys: &[&str],
+    keys: &[&'a str],
     values: usize,
     features: usize,
 ) -> Result<(), MessageError>
@@ -85,10 +85,10 @@ pub(crate) fn visit_features<V: LayerVisitor>(
 
 /// Has a visitor take the feature of a field that holds one, after so many, and answers how many
 /// it has.
-fn visit_field<V: LayerVisitor>(
+fn visit_field<'a, V: LayerVisitor<'a>>(
     alloc: Global,
     visitor: &mut V,
-    field: &Field<'_>,
+    field: &Field<'a>,
     payload_at: u64,
     keys: &mut LayerKeys<'_>,
     values: usize,

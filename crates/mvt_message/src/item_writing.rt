@@ -145,10 +145,10 @@ fn put_layer(alloc: Global, layer: &Layer) -> Result<Vec<u8>, PutError>
 }
 
 /// Adds features to a layer that has nothing yet.
-fn add_features(
+fn add_features<'a>(
     alloc: Global,
-    writer: &mut LayerWriter,
-    features: &[Feature],
+    writer: &mut LayerWriter<'a>,
+    features: &'a [Feature],
 ) -> Result<(), PutError>
     requires valid { AllByRecursion (λ (f : OneFeature). IsValid f.geometry) features.now }
     requires nothing { HasGathered writer.old [] }

@@ -1,8 +1,8 @@
 //! A layer that is canonical but for where its version, its name and its extent stand, and for last
 //! keys and values that no feature uses (Mapbox Vector Tile Specification 2.1, 4.1).
-ghost use Rattle.std.specs.Prelude.{◌≡◌, ◌≤◌, ◌<◌, ◌+◌, ◌-◌, ◌^◌, ◌==◌, ℕ, List, [], ◌++◌, length, map, drop, IfOk, IfSome, IsTrue, IsUtf8, false};
+ghost use Rattle.std.specs.Prelude.{◌≡◌, ◌≤◌, ◌<◌, ◌+◌, ◌^◌, ℕ, List, [], ◌++◌, length, map, drop, IfOk, IfSome, IsTrue, IsUtf8};
 ghost use Rattle.std.specs.List.{AllByRecursion};
-ghost use Rattle.mvt_attrs.specs.declared.value.Value.{Value as AValue};
+ghost use Rattle.mvt_attrs.specs.Values.{Value as AValue};
 ghost use Rattle.mvt_attrs.specs.FirstUse.{AreDistinct};
 ghost use Rattle.mvt_attrs.specs.FirstUses.{lent};
 ghost use Rattle.mvt_wire.specs.Field.{bytes};
@@ -10,17 +10,13 @@ ghost use Rattle.mvt_wire.specs.Spelling.{short_field, spelled};
 ghost use Rattle.mvt_feature.specs.Copying.{AreReady, IsCanonicalValue};
 ghost use Rattle.mvt_message.specs.declared.item.Item.{Item};
 ghost use Rattle.mvt_message.specs.declared.numbers.layer.TheConstants.{KEYS, VALUES};
-ghost use Rattle.mvt_message.specs.Copying.{AreFeaturesFrom, ArePayloadsFrom, AreValuesFrom, IsFrameOf, IsFrontOf, field_of};
+ghost use Rattle.mvt_message.specs.Copying.{AreFeaturesFrom, ArePayloadsFrom, AreValuesFrom, IsCopied, IsFrameOf, IsFrontOf, IsLayerIn, copied_payload, field_of};
 ghost use Rattle.mvt_message.specs.Around.{IsHead};
-ghost use Rattle.mvt_message.specs.Resuming.{IsKnown, IsPartOf, IsSeen, IsSeenWithin};
 
 use crate::around::{Around, around_from, may_be_whole, whole_of};
 use crate::feature_visitor::FeatureVisitor;
-use crate::keys_first::{begins_with_key, keys_first};
-use crate::layer_rewriting::RewrittenLayer;
-use crate::looking::{Counts, counts_from, may_be_put_in_order};
+use crate::looking::{Counts, counts_from, may_begin_in_order};
 use crate::numbers::layer;
-use crate::resuming::{OrderedLayer, written_layer};
 use mvt_attrs::{LayerKeys, are_distinct};
 use mvt_base::LIMIT;
 use mvt_feature::{NotCanonical, is_canonical_value, judge_canonical};
@@ -43,41 +39,20 @@ pub(crate) struct CopiedLayer<'a> {
     pub(crate) extent: u32,
 }
 
-/// A layer that is made canonical without another look at its first features.
-#[derive(Drop)]
-pub(crate) enum Known<'a> {
-    /// Its features, keys and values are canonical, but that its last keys and values may be
-    /// unused.
-    Copied(CopiedLayer<'a>),
-    /// Its features were copied or put in order, and its keys and values are canonical so far as
-    /// they are used.
-    Ordered(OrderedLayer<'a>),
-    /// Its first features were copied or put in order, and the others made anew.
-    Written(RewrittenLayer<'a, Ignore>),
-}
-
-/// A layer of version 2 made canonical, where its features, keys and values stand in the canonical
-/// order, and its first features are canonical. Its version, its name and its extent may stand in
-/// front of them or after.
+/// A layer of version 2 whose features, keys and values are canonical and stand in the canonical
+/// order, but that its last keys and values may be unused. Its version, its name and its extent may
+/// stand in front of them or after.
 ///
 /// # Errors
 ///
 /// Where it isn't such a layer, or isn't known to be; that says nothing of the payload.
-pub(crate) fn known_layer(alloc: Global, payload: &[u8]) -> Result<Known<'_>, NotCanonical>
+pub(crate) fn copied_layer(alloc: Global, payload: &[u8]) -> Result<CopiedLayer<'_>, NotCanonical>
     requires { length payload.now ≤ LIMIT }
-    ensures { IfOk result (IsKnown payload.now) }
+    ensures { IfOk result (λ layer. IsCopied payload.now layer.name.now (copied_payload layer)) }
 {
     let (head, start) = head_of(payload)?;
-    if begins_with_key(payload, start) {
-        let part = keys_first(alloc, payload, start, &head)?;
-        return written_layer(alloc, payload, &part);
-    }
     let frame = frame_of(alloc, payload, start, &head)?;
-    match seen_of(alloc, &mut Ignore, payload, frame) {
-        Ok(Seen::All(layer)) => Ok(Known::Copied(layer)),
-        Ok(Seen::First(part)) => written_layer(alloc, payload, &part),
-        Err(error) => Err(error),
-    }
+    layer_in(alloc, &mut Ignore, payload, frame)
 }
 
 /// A layer whose features haven't been looked at: its name and its extent, and where they and the
@@ -135,7 +110,7 @@ fn frame_of<'a>(
     requires head { IsHead body.now head.now features_at }
     ensures { IfOk result (IsFrameOf body.now) }
 {
-    if !may_be_put_in_order(body, features_at) {
+    if !may_begin_in_order(body, features_at) {
         return Err(NotCanonical::Other);
     }
     let front = front_of(alloc, body, features_at)?;
@@ -154,27 +129,6 @@ fn frame_of<'a>(
     })
 }
 
-/// What is seen of a layer whose features, keys and values stand in the canonical order.
-#[derive(Drop)]
-pub(crate) enum Seen<'a> {
-    /// Its features are canonical.
-    All(CopiedLayer<'a>),
-    /// The first of them are.
-    First(Part<'a>),
-}
-
-/// A layer whose first features are canonical.
-#[derive(Drop)]
-pub(crate) struct Part<'a> {
-    pub(crate) name: &'a str,
-    pub(crate) extent: u32,
-    pub(crate) features_at: usize,
-    /// The offset after the features.
-    pub(crate) features_end: usize,
-    pub(crate) front: Front<'a>,
-    pub(crate) reached: Reached,
-}
-
 /// The keys and the values of a layer, and where they stand.
 #[derive(Drop)]
 pub(crate) struct Front<'a> {
@@ -188,30 +142,20 @@ pub(crate) struct Front<'a> {
     pub(crate) end_at: usize,
 }
 
-/// How far the features of a layer are canonical.
-#[derive(Clone, Copy)]
-pub(crate) struct Reached {
-    /// The offset after them.
-    pub(crate) at: usize,
-    /// How many keys and values they use.
-    pub(crate) used: (usize, usize),
-    /// Whether there are no others.
-    pub(crate) is_whole: bool,
-}
-
-/// Looks at the features of a layer that has this frame. A visitor is told those that are
-/// canonical, and may be told some parts of one more.
-pub(crate) fn seen_of<'a, V: FeatureVisitor>(
+/// Judges the features of a layer that has this frame, and takes what is copied of it. A visitor is
+/// told them; after an error it may have been told some.
+pub(crate) fn layer_in<'a, V: FeatureVisitor>(
     alloc: Global,
     visitor: &mut V,
     body: &'a [u8],
     frame: Frame<'a>,
-) -> Result<Seen<'a>, NotCanonical>
+) -> Result<CopiedLayer<'a>, NotCanonical>
     requires small { length body.now ≤ LIMIT }
     requires frame { IsFrameOf body.now frame }
-    ensures seen { (items : List Item) → V.has_features items visitor.old []
-        → IfOk result (IsSeen (V.has_features items visitor.new) body.now frame.entry) }
-    ensures within { IfOk result (IsSeenWithin (length body.now)) }
+    ensures layer { (items : List Item) → V.has_features items visitor.old []
+        → IfOk result (IsLayerIn (V.has_features items visitor.new) body.now frame.entry) }
+    ensures within { IfOk result (λ layer.
+        length layer.front.now + length layer.values.now ≤ length body.now) }
 {
     let Frame {
         name,
@@ -219,25 +163,18 @@ pub(crate) fn seen_of<'a, V: FeatureVisitor>(
         features_at,
         front,
     } = frame;
-    let reached = judge_features(alloc, visitor, body, features_at, &front)?;
-    if !reached.is_whole {
-        return Ok(Seen::First(Part {
-            name,
-            extent,
-            features_at,
-            features_end: front.keys_at,
-            front,
-            reached,
-        }));
+    if !front.is_apart {
+        return Err(NotCanonical::Other);
     }
-    let keys_end = end_of_used(layer::KEYS, &front.keys, reached.used.0, front.values_at);
-    let values_end = end_of_used(layer::VALUES, &front.values, reached.used.1, front.end_at);
-    Ok(Seen::All(CopiedLayer {
+    let used = judge_features(alloc, visitor, body, features_at, &front)?;
+    let keys_end = end_of_used(layer::KEYS, &front.keys, used.0, front.values_at);
+    let values_end = end_of_used(layer::VALUES, &front.values, used.1, front.end_at);
+    Ok(CopiedLayer {
         name,
         front: &body[features_at..keys_end],
         values: &body[front.values_at..values_end],
         extent,
-    }))
+    })
 }
 
 /// The front of a layer whose features begin at an offset. It costs little where the fields stand
@@ -261,7 +198,7 @@ pub(crate) fn front_of(
 
 /// The front of a layer whose keys begin at an offset. There is room for so many at first.
 #[inline(always)]
-pub(crate) fn front_from<'a>(
+fn front_from<'a>(
     alloc: Global,
     body: &'a [u8],
     keys_at: usize,
@@ -284,7 +221,7 @@ pub(crate) fn front_from<'a>(
 }
 
 /// The offset after the features, whatever they are.
-pub(crate) fn after_features(body: &[u8], start: usize) -> usize
+fn after_features(body: &[u8], start: usize) -> usize
     requires { start ≤ length body.now }
     ensures within { result ≤ length body.now }
     ensures behind { start ≤ result }
@@ -375,12 +312,7 @@ fn are_apart(alloc: Global, keys: &[&str], values: &[&[u8]]) -> Result<bool, All
 }
 
 /// Where the used ones of some payloads end, so many, whose fields of this number end at an offset.
-pub(crate) fn end_of_used<T: AsSlice<u8>>(
-    number: u32,
-    payloads: &[T],
-    used: usize,
-    end: usize,
-) -> usize
+fn end_of_used<T: AsSlice<u8>>(number: u32, payloads: &[T], used: usize, end: usize) -> usize
     requires number { number < 2 ^ 29 }
     requires used { used ≤ length payloads.now }
     requires room { length (spelled (map (field_of T.items number) payloads.now)) ≤ end }
@@ -396,77 +328,37 @@ pub(crate) fn end_of_used<T: AsSlice<u8>>(
     at
 }
 
-/// Judges how far canonical features stand from an offset on, in a layer with this front, and use
-/// its entries in their order. A visitor is told them. Where an entry stands twice, none is judged.
+/// Judges whether canonical features stand from an offset up to the keys of this front, and use its
+/// entries in their order, and answers how many they use. A visitor is told them.
 fn judge_features<V: FeatureVisitor>(
     alloc: Global,
     visitor: &mut V,
     body: &[u8],
     start: usize,
     front: &Front<'_>,
-) -> Result<Reached, NotCanonical>
+) -> Result<(usize, usize), NotCanonical>
     requires { start ≤ length body.now }
     ensures features { (items : List Item) → V.has_features items visitor.old [] → IfOk result
-        (λ reached. (held : List AValue) → length held ≡ length front.now.values.items
+        (λ used. (held : List AValue) → length held ≡ length front.now.values.items
         → AreReady (lent front.now.keys.items) held (0, 0)
-        → AreFeaturesFrom (λ fs. IsTrue reached.is_whole → V.has_features items visitor.new fs)
-        body.now start (lent front.now.keys.items) held reached.at reached.used) }
-    ensures within { IfOk result (λ reached. (reached.used.0 ≤ length front.now.keys.items)
-        × (reached.used.1 ≤ length front.now.values.items) × (reached.at ≤ length body.now)) }
-    ensures whole { IfOk result (λ reached. IsTrue reached.is_whole
-        → IsTrue front.now.is_apart × (reached.at ≡ front.now.keys_at)) }
-    ensures none { IfOk result (λ reached. front.now.is_apart ≡ false → reached.at ≡ start) }
+        → AreFeaturesFrom (V.has_features items visitor.new) body.now start
+        (lent front.now.keys.items) held front.now.keys_at used) }
+    ensures within { IfOk result (λ used. (used.0 ≤ length front.now.keys.items)
+        × (used.1 ≤ length front.now.values.items)) }
 {
-    let keys = front.keys.len();
     let values = front.values.len();
     let mut layer_keys = LayerKeys::new(alloc, &front.keys);
     let mut used = (0, 0);
     let mut at = start;
-    let end = copies_end(front, start);
-    while at < end {
-        match take_feature(alloc, visitor, body, at, &mut layer_keys, values, used) {
-            Ok((after, more)) => {
-                at = after;
-                used = more;
-            }
-            Err(NotCanonical::Other) => return reached_at(at, used, false, keys, values),
-            Err(error) => return Err(error),
-        }
+    while at < front.keys_at {
+        let (after, more) = take_feature(alloc, visitor, body, at, &mut layer_keys, values, used)?;
+        at = after;
+        used = more;
     }
-    reached_at(at, used, is_whole(front, at), keys, values)
-}
-
-/// Where the features that are looked at end: none is where an entry stands twice.
-fn copies_end(front: &Front<'_>, start: usize) -> usize
-    ensures apart { IsTrue front.now.is_apart → result ≡ front.now.keys_at }
-    ensures none { front.now.is_apart ≡ false → result ≡ start }
-{
-    if front.is_apart { front.keys_at } else { start }
-}
-
-/// Whether the features that end at an offset are all, and may be copied.
-fn is_whole(front: &Front<'_>, at: usize) -> bool
-    ensures { IsTrue result → IsTrue front.now.is_apart × (at ≡ front.now.keys_at) }
-{
-    front.is_apart && at == front.keys_at
-}
-
-/// What was reached, where there are as many keys and values.
-fn reached_at(
-    at: usize,
-    used: (usize, usize),
-    is_whole: bool,
-    keys: usize,
-    values: usize,
-) -> Result<Reached, NotCanonical>
-    ensures same { IfOk result (λ reached. (reached.at ≡ at) × (reached.used ≡ used)
-        × (reached.is_whole ≡ is_whole)) }
-    ensures within { IfOk result (λ _. (used.0 ≤ keys) × (used.1 ≤ values)) }
-{
-    if used.0 > keys || used.1 > values {
+    if at != front.keys_at || used.0 > front.keys.len() || used.1 > values {
         return Err(NotCanonical::Other);
     }
-    Ok(Reached { at, used, is_whole })
+    Ok(used)
 }
 
 /// The offset after the feature at one, and how many keys and values are used then. A visitor is

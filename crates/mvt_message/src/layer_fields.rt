@@ -2,7 +2,7 @@
 //! found in one walk.
 ghost use Rattle.std.specs.Prelude.{◌≡◌, ◌+◌, ◌^◌, ◌<◌, List, [], ◌∷◌, ◌++◌, length, IfOk, IfErr, OnOk};
 ghost use Rattle.mvt_base.specs.Reports.{Reports};
-ghost use Rattle.mvt_attrs.specs.declared.value.Value.{Value};
+ghost use Rattle.mvt_attrs.specs.Values.{Value};
 ghost use Rattle.mvt_wire.specs.Field.{Entry, entry_of, content_of};
 ghost use Rattle.mvt_wire.specs.Fields.{bytes_size};
 ghost use Rattle.mvt_wire.specs.Split.{split};
@@ -33,7 +33,7 @@ pub(crate) enum LayerFault {
 }
 
 /// What the fields of a payload say, as those of a layer of version 2. A visitor takes the values.
-pub(crate) fn read_layer_fields<'a, V: LayerVisitor>(
+pub(crate) fn read_layer_fields<'a, V: LayerVisitor<'a>>(
     alloc: Global,
     visitor: &mut V,
     payload: &'a [u8],
@@ -67,7 +67,7 @@ pub(crate) fn read_layer_fields<'a, V: LayerVisitor>(
 impl<'a> LayerFields<'a> {
     /// Takes one more field; a visitor takes its value, if it is one.
     #[inline(always)]
-    fn take<V: LayerVisitor>(
+    fn take<V: LayerVisitor<'a>>(
         &mut self,
         alloc: Global,
         visitor: &mut V,

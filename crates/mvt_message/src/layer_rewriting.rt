@@ -1,21 +1,20 @@
 //! A layer made canonical one feature after another: each is written, and passed to a visitor
 //! (Mapbox Vector Tile Specification 2.1, 4.1).
-ghost use Rattle.std.specs.Prelude.{◌≡◌, ◌+◌, ◌^◌, ◌<◌, ◌≤◌, [], ◌++◌, List, length, None, IfOk, IfErr, OnErr, OnOk};
+ghost use Rattle.std.specs.Prelude.{◌≡◌, ℕ, [], ◌++◌, List, IfOk, OnErr, OnOk};
 ghost use Rattle.mvt_base.specs.Related.{Extends};
-ghost use Rattle.mvt_base.specs.Reports.{Reports};
 ghost use Rattle.mvt_wire.specs.Spelling.{spelled};
-ghost use Rattle.mvt_feature.specs.Faults.{fault_of};
 ghost use Rattle.mvt_message.specs.declared.item.Item.{Item};
 ghost use Rattle.mvt_message.specs.CanonicalItems.{head_fields};
-ghost use Rattle.mvt_message.specs.ItemRules.{item_fault};
-ghost use Rattle.mvt_message.specs.Rewriting.{IsRewrittenAs, tail_of};
+ghost use Rattle.mvt_message.specs.Items.{IsItem};
+ghost use Rattle.mvt_message.specs.Rewriting.{HasOnlyValues, HasRewritten, IsRewrittenAs, tail_of};
+ghost use Rattle.mvt_message.specs.ValidItems.{ValidItem};
+ghost use Rattle.mvt_message.specs.Visiting.{IsVisited};
 
 use crate::feature_visitor::FeatureVisitor;
 use crate::layer_writer::{LayerWriter, put_head};
-use crate::visiting::{LayerVisitor, Visited, visit_version_2};
-use mvt_attrs::{LayerKeys, Value};
-use mvt_base::LIMIT;
-use mvt_feature::{MessageError, Scratch, read_value};
+use crate::visiting::{LayerVisitor, Visited};
+use mvt_attrs::{LayerKeys, ValueRef};
+use mvt_feature::{MessageError, Scratch, read_value_ref};
 use std::alloc::{AllocError, Global};
 use std::mem;
 
@@ -32,7 +31,7 @@ pub enum Rewritten<'a, V: FeatureVisitor> {
 pub struct RewrittenLayer<'a, V: FeatureVisitor> {
     pub name: &'a str,
     pub(crate) extent: u32,
-    pub(crate) writer: LayerWriter,
+    pub(crate) writer: LayerWriter<'a>,
     pub visitor: V,
 }
 
@@ -71,93 +70,98 @@ impl<'a, V: FeatureVisitor> RewrittenLayer<'a, V> {
     }
 }
 
-/// Makes the item of a payload canonical, and passes its features to a visitor.
+/// Writes the features of a layer as [`visit_version_2`](crate::visit_version_2) visits them, and has
+/// a visitor be told them.
+///
+/// ```ignore
+/// let mut rewriter = LayerRewriter::new(alloc, Ignore, payload.len())?;
+/// let visited = visit_version_2(alloc, &mut rewriter, payload, payload_at, tag_at)?;
+/// match rewriter.finish(visited) {
+///     Rewritten::Layer(layer) => layer.append_tail(&mut out)?,
+///     Rewritten::Foreign(_) => {}
+/// }
+/// ```
 ///
 /// A key or a value is found by its hashes, and if others have these too, in order. So the time
-/// grows as sorting the payload, whatever its texts are. It holds the layer's keys and values and
-/// the fields of its features.
-///
-/// # Errors
-///
-/// As [`read_item`](crate::read_item).
-pub fn rewrite_parts<'a, V: FeatureVisitor>(
-    alloc: Global,
+/// grows as sorting the payload, whatever its texts are. It holds the fields of the layer's
+/// features, and is lent its keys and values.
+#[derive(Drop)]
+pub struct LayerRewriter<'a, V: FeatureVisitor> {
+    /// The values until the keys come: then the writer takes them all at once.
+    values: Vec<ValueRef<'a>>,
+    writer: LayerWriter<'a>,
     visitor: V,
-    payload: &'a [u8],
-    payload_at: u64,
-    tag_at: u64,
-) -> Result<Rewritten<'a, V>, MessageError>
-    requires small { length payload.now ≤ LIMIT }
-    requires fits { payload_at + length payload.now < 2 ^ 64 }
-    requires start { (items : List Item) × V.has_features items visitor [] }
-    ensures ok { OnOk result (item_fault payload.now payload_at tag_at ≡ None) }
-    ensures item { (items : List Item) → V.has_features items visitor []
-        → IfOk result (IsRewrittenAs (V.has_features items) payload.now) }
-    ensures fault { IfErr result (λ error. Reports (fault_of error)
-        (item_fault payload.now payload_at tag_at)) }
-{
-    let mut rewriter = LayerRewriter {
-        values: Vec::new(alloc),
-        writer: LayerWriter::with_room(alloc, payload.len())?,
-        visitor,
-    };
-    match visit_version_2(alloc, &mut rewriter, payload, payload_at, tag_at) {
-        Ok(Visited::Layer { name, extent }) => {
-            let LayerRewriter {
-                writer,
-                visitor,
-                ..
-            } = rewriter;
-            Ok(Rewritten::Layer(RewrittenLayer {
+}
+
+impl<'a, V: FeatureVisitor> LayerRewriter<'a, V> {
+    /// It has nothing yet, but room for the features of a payload of so many bytes.
+    ///
+    /// # Errors
+    ///
+    /// When memory runs out.
+    pub fn new(alloc: Global, visitor: V, bytes: usize) -> Result<Self, AllocError>
+        ensures { (items : List Item) → V.has_features items visitor []
+            → IfOk result (λ rewriter. HasOnlyValues (V.has_features items) rewriter []) }
+    {
+        Ok(LayerRewriter {
+            values: Vec::new(alloc),
+            writer: LayerWriter::with_room(alloc, bytes)?,
+            visitor,
+        })
+    }
+
+    /// The item that it visited, made canonical.
+    pub fn finish(self, visited: Visited<'a>) -> Rewritten<'a, V>
+        ensures { (items : List Item) (payload : List ℕ) (item : Item) → IsItem payload item
+            → ValidItem item
+            → IsVisited (λ r. V.has_features items r.visitor [])
+            (HasRewritten (V.has_features items)) payload self.entry visited.entry item
+            → IsRewrittenAs (V.has_features items) payload result }
+    {
+        let LayerRewriter {
+            writer,
+            visitor,
+            ..
+        } = self;
+        match visited {
+            Visited::Layer { name, extent } => Rewritten::Layer(RewrittenLayer {
                 name,
                 extent,
                 writer,
                 visitor,
-            }))
+            }),
+            Visited::Foreign { version } => Rewritten::Foreign(version),
         }
-        Ok(Visited::Foreign { version }) => Ok(Rewritten::Foreign(version)),
-        Err(error) => Err(error),
     }
 }
 
-/// Writes the features of a layer as they are visited, and has a visitor be told them.
-#[derive(Drop)]
-struct LayerRewriter<V: FeatureVisitor> {
-    /// The values until the keys come: then the writer takes them all at once.
-    values: Vec<Value>,
-    writer: LayerWriter,
-    visitor: V,
-}
-
-impl<V: FeatureVisitor> LayerVisitor for LayerRewriter<V> {
-    ghost use Rattle.std.specs.Prelude.{◌≡◌, List, []};
+impl<'a, V: FeatureVisitor> LayerVisitor<'a> for LayerRewriter<'a, V> {
+    ghost use Rattle.std.specs.Prelude.{List, []};
     ghost use Rattle.mvt_message.specs.declared.item.Item.{Item};
-    ghost use Rattle.mvt_message.specs.Rewriting.{HasGathered, HasWritten};
+    ghost use Rattle.mvt_message.specs.Rewriting.{HasOnlyValues, HasRewritten};
 
     ghost Given = { List Item };
 
     ghost has_given = { λ items r. V.has_features items r.visitor [] };
 
-    ghost has_values = { λ items r values. (r.values.items ≡ values)
-        × HasGathered r.writer [] × V.has_features items r.visitor [] };
+    ghost has_values = { λ items r values. HasOnlyValues (V.has_features items) r values };
 
-    ghost has_features = { λ items keys values r _ features.
-        HasWritten keys values r.writer features
-        × V.has_features items r.visitor features };
+    ghost has_features = { λ items keys values r payloads features.
+        HasRewritten (V.has_features items) keys values r payloads features };
 
     fn visit_value(
         &mut self,
-        alloc: Global,
-        payload: &[u8],
+        _: Global,
+        payload: &'a [u8],
         payload_at: u64,
         tag_at: u64,
     ) -> Result<(), MessageError> {
         self.values
-            .push(read_value(alloc, payload, payload_at, tag_at)?)?;
+            .push(read_value_ref(payload, payload_at, tag_at)?)?;
         Ok(())
     }
 
-    fn visit_keys(&mut self, alloc: Global, keys: &[&str], _: usize) -> Result<(), AllocError> {
+    fn visit_keys(&mut self, alloc: Global, keys: &[&'a str], _: usize) -> Result<(), AllocError> {
         let values = taken(alloc, &mut self.values);
         self.writer.take_values(values)?;
         self.writer.place_keys(keys)
@@ -182,7 +186,7 @@ impl<V: FeatureVisitor> LayerVisitor for LayerRewriter<V> {
 }
 
 /// The values of a list, which has none then.
-fn taken(alloc: Global, values: &mut Vec<Value>) -> Vec<Value>
+fn taken<'a>(alloc: Global, values: &mut Vec<ValueRef<'a>>) -> Vec<ValueRef<'a>>
     ensures { result.items ≡ values.old.items }
 {
     mem::replace(values, Vec::new(alloc))

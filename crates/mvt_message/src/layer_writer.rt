@@ -2,7 +2,7 @@
 //! canonical spelling (Mapbox Vector Tile Specification 2.1, 4.1).
 ghost use Rattle.std.specs.Prelude.{◌≡◌, ◌⊎◌, ℕ, ◌<◌, [], ◌∷◌, ◌++◌, List, length, map, IfOk, IsErrOf, OnErr, OnOk};
 ghost use Rattle.mvt_base.specs.Related.{Extends};
-ghost use Rattle.mvt_attrs.specs.declared.value.Value.{Value as AValue};
+ghost use Rattle.mvt_attrs.specs.Values.{Value as AValue};
 ghost use Rattle.mvt_attrs.specs.FirstUses.{lent};
 ghost use Rattle.mvt_attrs.specs.Pools.{key_pool, value_pool};
 ghost use Rattle.mvt_attrs.specs.Tags.{Names};
@@ -15,8 +15,8 @@ ghost use Rattle.mvt_message.specs.CanonicalItems.{keys_of, values_of, head_fiel
 ghost use Rattle.mvt_message.specs.Rewriting.{HasGathered, HasWritten, HasWrittenUpTo, IsPayloadOf, tail_of};
 
 use crate::numbers::{VERSION_2, layer};
-use mvt_attrs::{LayerEntries, PoolError, Value, texts_of};
-use mvt_base::{LIMIT, Text};
+use mvt_attrs::{LayerEntries, PoolError, TextRef, ValueRef, refs_of};
+use mvt_base::LIMIT;
 use mvt_feature::{
     Feature, Scratch, append_drawn_feature, append_feature, append_value, value_len,
 };
@@ -32,7 +32,7 @@ pub(crate) const FEATURE_ROOM: usize = 256;
 pub(crate) const LAYER_ROOM: usize = 1024;
 
 /// Writes a layer feature by feature: first come its values and its keys, which tags name by their
-/// indices.
+/// indices. Their texts are lent to it.
 ///
 /// ```ignore
 /// let mut writer = LayerWriter::new(alloc);
@@ -48,15 +48,15 @@ pub(crate) const LAYER_ROOM: usize = 1024;
 /// order. It holds the layer's keys and values and the fields of its features. After an error its
 /// content means nothing.
 #[derive(Drop)]
-pub struct LayerWriter {
-    pub(crate) uses: LayerEntries,
+pub struct LayerWriter<'a> {
+    pub(crate) uses: LayerEntries<'a>,
     /// The payload of a feature.
     pub(crate) payload: Vec<u8>,
     /// The fields of the features.
     pub(crate) features: Vec<u8>,
 }
 
-impl LayerWriter {
+impl<'a> LayerWriter<'a> {
     /// A layer without values. Takes no memory.
     pub fn new(alloc: Global) -> Self
         ensures { HasGathered result [] }
@@ -87,9 +87,9 @@ impl LayerWriter {
     /// # Errors
     ///
     /// When memory runs out.
-    pub fn take_values(&mut self, values: Vec<Value>) -> Result<(), AllocError>
+    pub fn take_values(&mut self, values: Vec<ValueRef<'a>>) -> Result<(), AllocError>
         ensures { (held : List AValue) → HasGathered self.old held
-            → OnOk result (HasGathered self.new (held ++ values.items)) }
+            → OnOk result (HasGathered self.new (held ++ values.entry.items)) }
     {
         self.uses.values.take_all(values)
     }
@@ -99,7 +99,7 @@ impl LayerWriter {
     /// # Errors
     ///
     /// When memory runs out.
-    pub fn add_keys(&mut self, keys: &[&str]) -> Result<(), AllocError>
+    pub fn add_keys(&mut self, keys: &[&'a str]) -> Result<(), AllocError>
         ensures { (held : List AValue) → HasGathered self.old held
             → OnOk result (HasWritten (lent keys.now) held self.new []) }
     {
@@ -109,12 +109,12 @@ impl LayerWriter {
     }
 
     /// The same without room for features, where it was asked for before.
-    pub(crate) fn place_keys(&mut self, keys: &[&str]) -> Result<(), AllocError>
+    pub(crate) fn place_keys(&mut self, keys: &[&'a str]) -> Result<(), AllocError>
         ensures { (held : List AValue) → HasGathered self.old held
             → OnOk result (HasWritten (lent keys.now) held self.new []) }
     {
         let alloc = *self.payload.allocator();
-        let texts = texts_of(alloc, keys)?;
+        let texts = refs_of(alloc, keys)?;
         self.uses.keys.take_all(texts)
     }
 
@@ -132,7 +132,11 @@ impl LayerWriter {
     /// # Errors
     ///
     /// When memory runs out, or the layer has more keys or values than a pool holds.
-    pub(crate) fn add(&mut self, feature: &Feature, scratch: &mut Scratch) -> Result<(), PoolError>
+    pub(crate) fn add(
+        &mut self,
+        feature: &'a Feature,
+        scratch: &mut Scratch,
+    ) -> Result<(), PoolError>
         requires { IsValid feature.now.geometry }
         ensures added { (features : List AFeature) → HasWrittenUpTo LIMIT [] [] self.old features
             → OnOk result (HasWrittenUpTo LIMIT [] [] self.new (features ++ feature.now ∷ [])) }
@@ -254,7 +258,7 @@ pub(crate) fn put_head(out: &mut Vec<u8>, name: &str) -> Result<(), AllocError>
 }
 
 /// Appends the keys.
-fn put_keys(out: &mut Vec<u8>, keys: &[Text]) -> Result<(), AllocError>
+fn put_keys(out: &mut Vec<u8>, keys: &[TextRef<'_>]) -> Result<(), AllocError>
     ensures ok { OnOk result (out.new.items ≡ out.old.items ++ spelled (map key_field keys.now)) }
     ensures left { OnErr result (Extends out.old.items out.new.items) }
 {
@@ -265,7 +269,7 @@ fn put_keys(out: &mut Vec<u8>, keys: &[Text]) -> Result<(), AllocError>
 }
 
 /// Appends the values.
-fn put_values(out: &mut Vec<u8>, values: &[Value]) -> Result<(), AllocError>
+fn put_values(out: &mut Vec<u8>, values: &[ValueRef<'_>]) -> Result<(), AllocError>
     ensures ok { OnOk result (out.new.items
         ≡ out.old.items ++ spelled (map value_field values.now)) }
     ensures left { OnErr result (Extends out.old.items out.new.items) }

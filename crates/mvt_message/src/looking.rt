@@ -9,7 +9,6 @@ ghost use Rattle.mvt_message.specs.Copying.{AreFieldsFrom};
 use crate::around::{EXTENT_TAG, VERSION_TAG};
 use crate::numbers::{feature, layer};
 use mvt_attrs::are_distinct;
-use mvt_feature::may_be_ordered;
 use mvt_wire::{short_bytes_at, short_number_at};
 use std::alloc::{AllocError, Global};
 
@@ -46,43 +45,6 @@ pub(crate) fn may_begin_in_order(body: &[u8], features_at: usize) -> bool
     match short_bytes_at(body, features_at, layer::FEATURES) {
         Some((feature, _)) => may_be_in_order(feature),
         None => body.len() - features_at <= FEW_BYTES,
-    }
-}
-
-/// Whether the fields of the first feature may stand in the canonical order or be put in it. Where
-/// there is none, only few bytes may follow. Yes means nothing yet; no costs speed alone.
-pub(crate) fn may_be_put_in_order(body: &[u8], features_at: usize) -> bool
-    requires { features_at ≤ length body.now }
-{
-    match short_bytes_at(body, features_at, layer::FEATURES) {
-        Some((feature, _)) => may_be_in_order(feature) || may_be_ordered(feature),
-        None => body.len() - features_at <= FEW_BYTES,
-    }
-}
-
-/// How many keys and values stand from an offset on, in front of a feature whose fields may be put
-/// in order. `Some` means nothing yet; `None`, where anything else stands or there are many, costs
-/// speed alone.
-pub(crate) fn counts_in_front(body: &[u8], keys_at: usize) -> Option<Counts>
-    requires { keys_at ≤ length body.now }
-{
-    let (keys, values_at) = fields_from(body, keys_at, layer::KEYS);
-    let (values, features_at) = fields_from(body, values_at, layer::VALUES);
-    match short_bytes_at(body, features_at, layer::FEATURES) {
-        Some((feature, _)) if may_be_ordered(feature) => Some(Counts { keys, values }),
-        _ => None,
-    }
-}
-
-/// Whether the fields of the feature at an offset may stand in the canonical order already, so that
-/// tags or spellings are what isn't canonical. One of a type and integers alone may be meant to be
-/// copied. Yes or no costs speed alone.
-pub(crate) fn stands_in_order(body: &[u8], at: usize) -> bool
-    requires { at ≤ length body.now }
-{
-    match short_bytes_at(body, at, layer::FEATURES) {
-        Some((feature, _)) => feature.first() != Some(&TYPE_TAG) && may_be_in_order(feature),
-        None => true,
     }
 }
 

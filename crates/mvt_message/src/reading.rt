@@ -98,7 +98,7 @@ impl LayerKeeper {
     }
 }
 
-impl LayerVisitor for LayerKeeper {
+impl<'a> LayerVisitor<'a> for LayerKeeper {
     ghost use Rattle.std.specs.Prelude.{◌≡◌, []};
 
     ghost Given = { Unit {0} };
@@ -114,7 +114,7 @@ impl LayerVisitor for LayerKeeper {
     fn visit_value(
         &mut self,
         alloc: Global,
-        payload: &[u8],
+        payload: &'a [u8],
         payload_at: u64,
         tag_at: u64,
     ) -> Result<(), MessageError> {
@@ -123,7 +123,7 @@ impl LayerVisitor for LayerKeeper {
         Ok(())
     }
 
-    fn visit_keys(&mut self, _: Global, _: &[&str], features: usize) -> Result<(), AllocError> {
+    fn visit_keys(&mut self, _: Global, _: &[&'a str], features: usize) -> Result<(), AllocError> {
         self.features.reserve(features)
     }
 
@@ -146,7 +146,7 @@ impl LayerVisitor for LayerKeeper {
 #[derive(Drop)]
 struct LayerJudge;
 
-impl LayerVisitor for LayerJudge {
+impl<'a> LayerVisitor<'a> for LayerJudge {
     ghost Given = { Unit {0} };
 
     ghost has_given = { λ _ _. Unit {0} };
@@ -158,14 +158,14 @@ impl LayerVisitor for LayerJudge {
     fn visit_value(
         &mut self,
         _: Global,
-        payload: &[u8],
+        payload: &'a [u8],
         payload_at: u64,
         tag_at: u64,
     ) -> Result<(), MessageError> {
         judge_value(payload, payload_at, tag_at)
     }
 
-    fn visit_keys(&mut self, _: Global, _: &[&str], _: usize) -> Result<(), AllocError> {
+    fn visit_keys(&mut self, _: Global, _: &[&'a str], _: usize) -> Result<(), AllocError> {
         Ok(())
     }
 

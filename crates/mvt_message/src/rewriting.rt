@@ -11,16 +11,15 @@ ghost use Rattle.mvt_message.specs.CanonicalItems.{canonical_item, head_fields};
 ghost use Rattle.mvt_message.specs.Copying.{copied_payload};
 ghost use Rattle.mvt_message.specs.ItemRules.{item_fault};
 ghost use Rattle.mvt_message.specs.Items.{IsItem, names_in};
-ghost use Rattle.mvt_message.specs.Resuming.{ordered_payload};
 ghost use Rattle.mvt_message.specs.Rewriting.{tail_of};
 ghost use Rattle.mvt_message.specs.ValidItems.{ValidItem};
 
-use crate::layer_copying::{CopiedLayer, Known, known_layer};
-use crate::layer_rewriting::{Rewritten, RewrittenLayer, rewrite_parts};
+use crate::layer_copying::{CopiedLayer, copied_layer};
+use crate::layer_rewriting::{LayerRewriter, Rewritten, RewrittenLayer};
 use crate::layer_writer::{put_extent, put_head};
 use crate::reading::judge_item;
-use crate::resuming::OrderedLayer;
 use crate::version::early_version;
+use crate::visiting::visit_version_2;
 use mvt_base::LIMIT;
 use mvt_feature::{MessageError, NotCanonical};
 use mvt_geometry::Ignore;
@@ -29,8 +28,9 @@ use std::alloc::{AllocError, Global};
 /// Appends the canonical payload of the item that a payload is, and answers the name of the layer.
 /// It may be longer than the limit.
 ///
-/// What is canonical of a layer is copied, if its fields are in the canonical order; so its keys
-/// and values may be searched for twice. They are found by their hashes, and if others have these
+/// A layer whose features, keys and values are canonical is copied. Of any other, feature by feature
+/// is judged and written; so its keys and values may be searched for twice. They are found by their
+/// hashes, and if others have these
 /// too, in order: the time grows as sorting the payload, whatever its texts are. It holds the
 /// layer's keys and values and the fields of its features.
 ///
@@ -58,17 +58,9 @@ pub fn rewrite_item<'a>(
         out.extend_from_slice(payload)?;
         return Ok(None);
     }
-    match known_layer(alloc, payload) {
-        Ok(Known::Copied(layer)) => {
-            append_copied_layer(out, &layer, payload.len())?;
-            Ok(Some(layer.name))
-        }
-        Ok(Known::Ordered(layer)) => {
-            append_ordered(out, &layer, payload.len())?;
-            Ok(Some(layer.name))
-        }
-        Ok(Known::Written(layer)) => {
-            append_written(out, &layer, payload.len())?;
+    match copied_layer(alloc, payload) {
+        Ok(layer) => {
+            append_copied(out, &layer, payload.len())?;
             Ok(Some(layer.name))
         }
         Err(NotCanonical::Memory) => Err(MessageError::Memory),
@@ -82,11 +74,7 @@ pub fn rewrite_item<'a>(
 }
 
 /// Appends a layer whose features, keys and values are copied as they stand.
-fn append_copied_layer(
-    out: &mut Vec<u8>,
-    layer: &CopiedLayer<'_>,
-    bytes: usize,
-) -> Result<(), AllocError>
+fn append_copied(out: &mut Vec<u8>, layer: &CopiedLayer<'_>, bytes: usize) -> Result<(), AllocError>
     ensures ok { OnOk result (out.new.items ≡ out.old.items ++ copied_payload layer.now) }
     ensures left { OnErr result (Extends out.old.items out.new.items) }
 {
@@ -95,23 +83,6 @@ fn append_copied_layer(
     out.extend_from_slice(layer.front)?;
     out.extend_from_slice(layer.values)?;
     put_extent(out, layer.extent)
-}
-
-/// Appends a layer whose features were put in order, and whose keys and values are copied.
-fn append_ordered(
-    out: &mut Vec<u8>,
-    ordered: &OrderedLayer<'_>,
-    bytes: usize,
-) -> Result<(), AllocError>
-    ensures ok { OnOk result (out.new.items ≡ out.old.items ++ ordered_payload ordered.now) }
-    ensures left { OnErr result (Extends out.old.items out.new.items) }
-{
-    out.reserve(bytes)?;
-    put_head(out, ordered.name)?;
-    out.extend_from_slice(&ordered.features)?;
-    out.extend_from_slice(ordered.keys)?;
-    out.extend_from_slice(ordered.values)?;
-    put_extent(out, ordered.extent)
 }
 
 /// Appends the canonical parts of a layer, which rarely are more bytes than its payload has.
@@ -147,15 +118,16 @@ fn rewrite_anew<'a>(
         (item_fault payload.now payload_at tag_at)) }
     ensures left { OnErr result (Extends out.old.items out.new.items) }
 {
-    match rewrite_parts(alloc, Ignore, payload, payload_at, tag_at) {
-        Ok(Rewritten::Layer(layer)) => {
+    let mut rewriter = LayerRewriter::new(alloc, Ignore, payload.len())?;
+    let visited = visit_version_2(alloc, &mut rewriter, payload, payload_at, tag_at)?;
+    match rewriter.finish(visited) {
+        Rewritten::Layer(layer) => {
             append_written(out, &layer, payload.len())?;
             Ok(Some(layer.name))
         }
-        Ok(Rewritten::Foreign(_)) => {
+        Rewritten::Foreign(_) => {
             out.extend_from_slice(payload)?;
             Ok(None)
         }
-        Err(error) => Err(error),
     }
 }

@@ -1,7 +1,7 @@
 //! The values of a layer (Mapbox Vector Tile Specification 2.1, 4.1).
 ghost use Rattle.std.specs.Prelude.{◌≡◌, ◌+◌, ◌^◌, ◌<◌, List, [], ◌∷◌, ◌++◌, IfOk, IfErr};
 ghost use Rattle.mvt_base.specs.Reports.{Reports};
-ghost use Rattle.mvt_attrs.specs.declared.value.Value.{Value};
+ghost use Rattle.mvt_attrs.specs.Values.{Value};
 ghost use Rattle.mvt_wire.specs.Field.{Entry, entry_of, content_of};
 ghost use Rattle.mvt_wire.specs.Fields.{bytes_size};
 ghost use Rattle.mvt_feature.specs.Faults.{fault_of};
@@ -17,10 +17,10 @@ use std::alloc::Global;
 /// Has a visitor take the value of a field that holds one, after so many, and answers how many it
 /// has.
 #[inline(always)]
-pub(crate) fn take_value<V: LayerVisitor>(
+pub(crate) fn take_value<'a, V: LayerVisitor<'a>>(
     alloc: Global,
     visitor: &mut V,
-    field: &Field<'_>,
+    field: &Field<'a>,
     payload_at: u64,
     count: usize,
 ) -> Result<usize, MessageError>

@@ -2,7 +2,7 @@
 //! values, the keys and the features of a layer.
 ghost use Rattle.std.specs.Prelude.{◌≡◌, ◌+◌, ◌^◌, ◌<◌, ◌≤◌, ℕ, List, [], ◌∷◌, ◌++◌, length, Some, None, IfOk, IfErr, OnOk};
 ghost use Rattle.mvt_base.specs.Reports.{Reports};
-ghost use Rattle.mvt_attrs.specs.declared.value.Value.{Value};
+ghost use Rattle.mvt_attrs.specs.Values.{Value};
 ghost use Rattle.mvt_attrs.specs.FirstUses.{lent};
 ghost use Rattle.mvt_wire.specs.Split.{split};
 ghost use Rattle.mvt_feature.specs.declared.feature.Feature.{Feature as AFeature};
@@ -29,10 +29,11 @@ use mvt_base::LIMIT;
 use mvt_feature::{Cause, MessageError, Scratch, fault_at};
 use std::alloc::{AllocError, Global};
 
-/// An object that receives values, keys and features as a layer is read: first all values, then all
+/// An object that receives values, keys and features as a layer is read, where payloads and keys
+/// lie in its bytes: first all values, then all
 /// keys, then the features, each in the layer's order. It judges a value or a feature as it takes
 /// it.
-pub trait LayerVisitor: Drop {
+pub trait LayerVisitor<'a>: Drop {
     // What it was given beside the layer.
     ghost Given: { Type 0 };
 
@@ -55,7 +56,7 @@ pub trait LayerVisitor: Drop {
     fn visit_value(
         &mut self,
         alloc: Global,
-        payload: &[u8],
+        payload: &'a [u8],
         payload_at: u64,
         tag_at: u64,
     ) -> Result<(), MessageError>
@@ -79,7 +80,7 @@ pub trait LayerVisitor: Drop {
     fn visit_keys(
         &mut self,
         alloc: Global,
-        keys: &[&str],
+        keys: &[&'a str],
         features: usize,
     ) -> Result<(), AllocError>
         ensures { (given : Given) (values : List Value) → has_values given self.old values
@@ -136,7 +137,7 @@ pub enum Visited<'a> {
 /// # Errors
 ///
 /// As [`read_item`](crate::read_item).
-pub fn visit_layer<'a, V: LayerVisitor>(
+pub fn visit_layer<'a, V: LayerVisitor<'a>>(
     alloc: Global,
     visitor: &mut V,
     payload: &'a [u8],
@@ -178,7 +179,7 @@ pub fn visit_layer<'a, V: LayerVisitor>(
 /// # Errors
 ///
 /// As [`read_item`](crate::read_item).
-pub fn visit_version_2<'a, V: LayerVisitor>(
+pub fn visit_version_2<'a, V: LayerVisitor<'a>>(
     alloc: Global,
     visitor: &mut V,
     payload: &'a [u8],
@@ -238,7 +239,7 @@ fn foreign_version(
 
 /// Goes over the keys and the features of a layer that splits into fields and has version 2, whose
 /// front was read.
-fn visit_parts<'a, V: LayerVisitor>(
+fn visit_parts<'a, V: LayerVisitor<'a>>(
     alloc: Global,
     visitor: &mut V,
     payload: &'a [u8],

@@ -6,7 +6,7 @@ use Rattle.std.proofs.lemmas.List.{get_or-take, take-append-le}
 use Rattle.std.proofs.lemmas.Option.{none-some, same_Some, slice_get_within, get_or_from_slice_get}
 use Rattle.mvt_base.specs.Related.{AreRelated}
 use Rattle.mvt_base.proofs.ListLemmas.{around, related_once}
-use Rattle.mvt_attrs.specs.declared.value.Value.{Value}
+use Rattle.mvt_attrs.specs.Values.{Value}
 use Rattle.mvt_geometry.specs.declared.shape.Geometry.{Geometry as AGeometry}
 use Rattle.mvt_message.specs.Items.{names_in}
 use Rattle.mvt_tile_value.specs.Tiles.{HasDistinctNames}

@@ -10,8 +10,8 @@ use Rattle.std.proofs.lemmas.List.{length-map, map-append, take_at}
 use Rattle.std.proofs.lemmas.Str.{is_utf8-from_IsUtf8}
 use Rattle.mvt_base.specs.Related.{AreRelated}
 use Rattle.mvt_base.proofs.ListLemmas.{all_true}
-use Rattle.mvt_attrs.specs.declared.value.Value.{Value}
-use Rattle.mvt_attrs.specs.declared.value.Value.TheVariants.{Text, Float, Double, Int, Uint, Sint, Bool as Truth}
+use Rattle.mvt_attrs.specs.Values.{Value}
+use Rattle.mvt_attrs.specs.declared.value.ValueOf.TheVariants.{Text, Float, Double, Int, Uint, Sint, Bool as Truth}
 use Rattle.mvt_geometry.specs.declared.shape.Point.{Point}
 use Rattle.mvt_geometry.specs.declared.shape.Polygon.{Polygon}
 use Rattle.mvt_geometry.specs.declared.shape.Geometry.{Geometry}

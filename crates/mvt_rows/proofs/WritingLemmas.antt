@@ -13,7 +13,7 @@ use Rattle.mvt_attrs.specs.FirstUses.{lent}
 use Rattle.mvt_base.specs.declared.TheConstants.{LIMIT}
 use Rattle.mvt_base.specs.Related.{AreRelated}
 use Rattle.mvt_base.proofs.ListLemmas.{around, related_once}
-use Rattle.mvt_attrs.specs.declared.value.Value.{Value}
+use Rattle.mvt_attrs.specs.Values.{Value}
 use Rattle.mvt_attrs.specs.Tags.{Names}
 use Rattle.mvt_attrs.proofs.AttrsLaws.{attributes_or_fault_there}
 use Rattle.mvt_geometry.specs.declared.shape.Kind.{Kind}

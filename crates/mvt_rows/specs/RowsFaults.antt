@@ -4,7 +4,7 @@ use Rattle.std.specs.Prelude.{◌≡◌, ◌≢◌, ℕ, nat_lt, List, [], ◌�
 use Rattle.std.specs.Option.{option_or}
 use Rattle.std.specs.List.{flat_map}
 use Rattle.mvt_base.specs.Related.{AreRelated}
-use Rattle.mvt_attrs.specs.declared.value.Value.{Value}
+use Rattle.mvt_attrs.specs.Values.{Value}
 use Rattle.mvt_attrs.specs.declared.resolving.TagCause.{TagCause}
 use Rattle.mvt_attrs.specs.declared.resolving.TagCause.TheVariants as tags
 use Rattle.mvt_attrs.specs.TagRules.{tag_fault}

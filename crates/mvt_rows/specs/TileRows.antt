@@ -5,8 +5,8 @@ use Rattle.std.specs.Int.{w64, cast_signed}
 use Rattle.std.specs.List.{slice_range}
 use Rattle.std.specs.Str.{is_utf8}
 use Rattle.mvt_base.specs.Related.{AreRelated}
-use Rattle.mvt_attrs.specs.declared.value.Value.{Value}
-use Rattle.mvt_attrs.specs.declared.value.Value.TheVariants.{Text, Float, Double, Int, Uint, Sint, Bool as Truth}
+use Rattle.mvt_attrs.specs.Values.{Value}
+use Rattle.mvt_attrs.specs.declared.value.ValueOf.TheVariants.{Text, Float, Double, Int, Uint, Sint, Bool as Truth}
 use Rattle.mvt_attrs.specs.Tags.{Resolved}
 use Rattle.mvt_geometry.specs.declared.shape.Point.{Point}
 use Rattle.mvt_geometry.specs.declared.shape.Polygon.{Polygon}

@@ -4,7 +4,7 @@ use Rattle.std.specs.List.{AllByRecursion, list_any, flat_map}
 use Rattle.mvt_attrs.specs.FirstUses.{lent}
 use Rattle.mvt_base.specs.declared.TheConstants.{LIMIT}
 use Rattle.mvt_base.specs.Related.{AreRelated}
-use Rattle.mvt_attrs.specs.declared.value.Value.{Value}
+use Rattle.mvt_attrs.specs.Values.{Value}
 use Rattle.mvt_attrs.specs.TagRules.{tag_fault}
 use Rattle.mvt_feature.specs.Valid.{ValidValue}
 use Rattle.mvt_message.specs.declared.item.Item.{Item}

@@ -1,9 +1,8 @@
 //! The lists of a tile's rows, as they grow.
 ghost use Rattle.std.specs.Prelude.{◌≡◌, ℕ, IsUtf8, OnOk, OnErr, nat_le};
 ghost use Rattle.std.specs.List.{AllByRecursion, fold};
-ghost use Rattle.mvt_attrs.specs.declared.value.Value.TheVariants as values;
+ghost use Rattle.mvt_attrs.specs.declared.value.ValueOf.TheVariants as values;
 ghost use Rattle.mvt_attrs.specs.FirstUses.{lent};
-ghost use Rattle.mvt_feature.specs.ValueRefs.{referred_value};
 ghost use Rattle.mvt_geometry.specs.Visiting.{Part, EndsAs};
 ghost use Rattle.mvt_rows.specs.Lent.{table_of};
 ghost use Rattle.mvt_rows.specs.ReadTables.{places_of};
@@ -16,7 +15,7 @@ mod visiting;
 
 use crate::places::Places;
 use crate::rows::{FeatureRow, LayerRow, PartRow, PointRow, Rows, Span, ValueRow};
-use mvt_feature::ValueRef;
+use mvt_attrs::ValueRef;
 use mvt_geometry::{GeometryVisitor, Point, Ring};
 use std::alloc::{AllocError, Global};
 use std::marker::Model;
@@ -217,11 +216,11 @@ impl Table {
 
     /// Adds a value, or nothing if memory runs out.
     fn add_value(&mut self, meaning: ValueRef<'_>) -> Result<(), AllocError>
-        ensures ok { OnOk result (self.new ≡ with_value self.old (referred_value meaning.entry)) }
+        ensures ok { OnOk result (self.new ≡ with_value self.old meaning.entry) }
         ensures err { OnErr result (self.new ≡ self.old) }
     {
         match meaning {
-            ValueRef::Text(text) => self.add_text(text),
+            ValueRef::Text(text) => self.add_text(text.as_str()),
             ValueRef::Float(bits) => self.add_number(2, u64::from(bits)),
             ValueRef::Double(bits) => self.add_number(3, bits),
             ValueRef::Int(number) => self.add_number(4, number.cast_unsigned()),

@@ -8,8 +8,8 @@ use Rattle.std.proofs.lemmas.List.{get_or_default}
 use Rattle.std.proofs.lemmas.List.Folds.{find-append}
 use Rattle.std.proofs.lemmas.Option.{slice_get-get_or}
 use Rattle.mvt_attrs.specs.declared.value.Attribute.{Attribute}
-use Rattle.mvt_attrs.specs.declared.value.Value.{Value}
-use Rattle.mvt_attrs.specs.declared.value.Value.TheVariants as values
+use Rattle.mvt_attrs.specs.Values.{Value}
+use Rattle.mvt_attrs.specs.declared.value.ValueOf.TheVariants as values
 use Rattle.mvt_attrs.specs.Tags.{Names}
 use Rattle.mvt_feature.specs.declared.feature.Feature.{Feature}
 use Rattle.mvt_geometry.specs.declared.shape.Geometry.{Geometry}

@@ -2,19 +2,18 @@
 ghost use Rattle.std.specs.Prelude.{◌≡◌, ◌∷◌, ◌++◌, ◌+◌, ◌*◌, ℕ, List, [], length, map, slice_get, Some, OnOk};
 ghost use Rattle.std.specs.Option.{option_to_list};
 ghost use Rattle.mvt_attrs.specs.declared.value.Attribute.{Attribute};
-ghost use Rattle.mvt_attrs.specs.declared.value.Value.{Value as AValue};
+ghost use Rattle.mvt_attrs.specs.Values.{Value as AValue};
 ghost use Rattle.mvt_attrs.specs.Tags.{Names};
 ghost use Rattle.mvt_feature.specs.declared.feature.Feature.{Feature as AFeature};
-ghost use Rattle.mvt_feature.specs.ValueRefs.{referred_value};
 ghost use Rattle.mvt_tile_value.specs.Lint.{attribute_findings, is_large_value};
 ghost use Rattle.mvt_tile_value.specs.Linting.{AreLinted, AreLintedSoFar, HasFound};
 ghost use Rattle.mvt_tile_value.specs.Notes.{numbered};
 
 use crate::finding::Finding;
 use crate::geometry_linting::GeometryFinding;
-use crate::linting::{is_large, is_large_id, push_if};
+use crate::linting::{is_large_id, is_large_value, push_if};
 use mvt_attrs::LayerKeys;
-use mvt_feature::{Scratch, ValueRef, read_value_ref};
+use mvt_feature::{Scratch, read_value_ref};
 use mvt_message::{LayerVisitor, MessageError};
 use std::alloc::{AllocError, Global};
 
@@ -66,7 +65,7 @@ impl LayerFindings {
     }
 }
 
-impl LayerVisitor for LayerFindings {
+impl<'a> LayerVisitor<'a> for LayerFindings {
     ghost use Rattle.std.specs.Prelude.{ℕ, []};
     ghost use Rattle.mvt_tile_value.specs.Linting.{AreLintedSoFar};
 
@@ -83,16 +82,16 @@ impl LayerVisitor for LayerFindings {
     fn visit_value(
         &mut self,
         _: Global,
-        payload: &[u8],
+        payload: &'a [u8],
         payload_at: u64,
         tag_at: u64,
     ) -> Result<(), MessageError> {
         let meaning = read_value_ref(payload, payload_at, tag_at)?;
-        self.large.push(is_large_ref(meaning))?;
+        self.large.push(is_large_value(&meaning))?;
         Ok(())
     }
 
-    fn visit_keys(&mut self, _: Global, _: &[&str], _: usize) -> Result<(), AllocError> {
+    fn visit_keys(&mut self, _: Global, _: &[&'a str], _: usize) -> Result<(), AllocError> {
         Ok(())
     }
 
@@ -150,14 +149,4 @@ fn is_large_at(large: &[bool], place: usize) -> bool
         → slice_get values place ≡ Some value → result ≡ is_large_value value }
 {
     place < large.len() && large[place]
-}
-
-fn is_large_ref(meaning: ValueRef<'_>) -> bool
-    ensures { result ≡ is_large_value (referred_value meaning.entry) }
-{
-    match meaning {
-        ValueRef::Int(number) | ValueRef::Sint(number) => is_large(number.unsigned_abs()),
-        ValueRef::Uint(number) => is_large(number),
-        ValueRef::Text(_) | ValueRef::Float(_) | ValueRef::Double(_) | ValueRef::Bool(_) => false,
-    }
 }

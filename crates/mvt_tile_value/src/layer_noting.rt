@@ -58,7 +58,7 @@ impl LayerNotes {
 }
 
 /// Of a layer that is judged alone.
-impl LayerVisitor for LayerNotes {
+impl<'a> LayerVisitor<'a> for LayerNotes {
     ghost use Rattle.std.specs.Prelude.{List, [], length};
     ghost use Rattle.mvt_message.specs.declared.item.Item.{Item};
     ghost use Rattle.mvt_tile_value.specs.Findings.{AreNotedSoFar};
@@ -75,14 +75,14 @@ impl LayerVisitor for LayerNotes {
     fn visit_value(
         &mut self,
         _: Global,
-        payload: &[u8],
+        payload: &'a [u8],
         payload_at: u64,
         tag_at: u64,
     ) -> Result<(), MessageError> {
         judge_value(payload, payload_at, tag_at)
     }
 
-    fn visit_keys(&mut self, _: Global, _: &[&str], _: usize) -> Result<(), AllocError> {
+    fn visit_keys(&mut self, _: Global, _: &[&'a str], _: usize) -> Result<(), AllocError> {
         Ok(())
     }
 

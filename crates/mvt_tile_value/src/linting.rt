@@ -6,7 +6,7 @@ ghost use Rattle.mvt_tile_value.specs.Lint.{attribute_findings, feature_findings
 
 use crate::finding::Finding;
 use crate::tile::Tile;
-use mvt_attrs::{Attribute, Value};
+use mvt_attrs::{Attribute, ValueRef};
 use mvt_base::Items;
 use mvt_feature::Feature;
 use mvt_geometry::{Geometry, Point, Polygon};
@@ -122,7 +122,7 @@ fn lint_attributes(
         ++ numbered (attribute_findings layer feature) 0 attributes.now) }
 {
     for (number, attribute) in attributes.iter().enumerate() {
-        let is_large = is_large_value(&attribute.value);
+        let is_large = is_large_value(&attribute.value.lent());
         push_if(
             findings,
             is_large,
@@ -240,18 +240,18 @@ pub(crate) fn is_large_id(id: Option<u64>) -> bool
     }
 }
 
-fn is_large_value(value: &Value) -> bool
+pub(crate) fn is_large_value(value: &ValueRef<'_>) -> bool
     ensures { result ≡ the_is_large_value value.now }
 {
     match value {
-        Value::Int(number) | Value::Sint(number) => is_large(number.unsigned_abs()),
-        Value::Uint(number) => is_large(*number),
-        Value::Text(_) | Value::Float(_) | Value::Double(_) | Value::Bool(_) => false,
+        ValueRef::Int(number) | ValueRef::Sint(number) => is_large(number.unsigned_abs()),
+        ValueRef::Uint(number) => is_large(*number),
+        ValueRef::Text(_) | ValueRef::Float(_) | ValueRef::Double(_) | ValueRef::Bool(_) => false,
     }
 }
 
 /// Whether a number of JavaScript can't tell an integer from its neighbours.
-pub(crate) fn is_large(number: u64) -> bool
+fn is_large(number: u64) -> bool
     ensures { result ≡ the_is_large number }
 {
     number > 9_007_199_254_740_991

@@ -1,7 +1,7 @@
 //! The notes of the rings of a feature, as they are drawn.
 ghost use Rattle.std.specs.Prelude.{◌≡◌, ◌+◌, ◌^◌, ◌<◌, ℕ, List, length, None, IfOk, IfErr, OnOk};
 ghost use Rattle.mvt_base.specs.Reports.{Reports};
-ghost use Rattle.mvt_attrs.specs.declared.value.Value.{Value};
+ghost use Rattle.mvt_attrs.specs.Values.{Value};
 ghost use Rattle.mvt_geometry.specs.declared.shape.Point.{Point as APoint};
 ghost use Rattle.mvt_geometry.specs.Area.{area2};
 ghost use Rattle.mvt_geometry.specs.Rings.{is_closed};

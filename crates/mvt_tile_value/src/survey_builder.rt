@@ -28,8 +28,8 @@ use crate::noting::note_if;
 use crate::survey::Survey;
 use mvt_base::{Items, LIMIT};
 use mvt_message::{
-    Item, MessageError, NotCanonical, Rewritten, RewrittenLayer, Visited, judge_item,
-    rewrite_parts, visit_canonical, visit_version_2,
+    Item, LayerRewriter, MessageError, NotCanonical, Rewritten, RewrittenLayer, Visited,
+    judge_item, visit_canonical, visit_version_2,
 };
 use std::alloc::{AllocError, Global};
 
@@ -130,16 +130,17 @@ impl<'a> SurveyBuilder<'a> {
             (item_fault payload.now payload_at tag_at)) }
     {
         let noted = LayerNotes::new(alloc, index);
-        match rewrite_parts(alloc, noted, payload, payload_at, tag_at) {
-            Ok(Rewritten::Layer(layer)) => {
+        let mut rewriter = LayerRewriter::new(alloc, noted, payload.len())?;
+        let visited = visit_version_2(alloc, &mut rewriter, payload, payload_at, tag_at)?;
+        match rewriter.finish(visited) {
+            Rewritten::Layer(layer) => {
                 self.add_layer(alloc, index, &layer)?;
                 Ok(Some(layer.name))
             }
-            Ok(Rewritten::Foreign(version)) => {
+            Rewritten::Foreign(version) => {
                 self.add_foreign(alloc, index, version, payload)?;
                 Ok(None)
             }
-            Err(error) => Err(error),
         }
     }
 

@@ -1,7 +1,7 @@
 -- What the uses answer.
 use Rattle.std.specs.Prelude.{◌≡◌, ℕ, List, [], ◌∷◌, length, find, Option, Some, None, MatchOption, Vec, codes}
 use Rattle.std.specs.Global.{Global}
-use Rattle.mvt_attrs.specs.declared.value.Value.TheVariants.{Text}
+use Rattle.mvt_attrs.specs.declared.value.ValueOf.TheVariants.{Text}
 use Rattle.mvt_geometry.specs.declared.shape.Point.{Point}
 use Rattle.mvt_geometry.specs.declared.shape.Geometry.TheVariants.{Points}
 use Rattle.mvt_message.specs.declared.item.Item.{Item}

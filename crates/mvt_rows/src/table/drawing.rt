@@ -1,7 +1,7 @@
 //! The parts of a feature, told while its geometry is judged.
 ghost use Rattle.std.specs.Prelude.{◌≡◌, ◌+◌, ◌^◌, ◌<◌, ◌≤◌, List, length, take, None, IfOk, IfErr, OnOk, OnErr};
 ghost use Rattle.mvt_base.specs.Reports.{Reports};
-ghost use Rattle.mvt_attrs.specs.declared.value.Value.{Value};
+ghost use Rattle.mvt_attrs.specs.Values.{Value};
 ghost use Rattle.mvt_geometry.specs.Visiting.{HasDrawn};
 ghost use Rattle.mvt_feature.specs.Drawn.{IsDrawnOf, tags_of};
 ghost use Rattle.mvt_feature.specs.FeatureRules.{feature_fault};

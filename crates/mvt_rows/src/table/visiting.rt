@@ -153,7 +153,7 @@ impl TileVisitor for RowsVisitor {
     }
 }
 
-impl LayerVisitor for RowsVisitor {
+impl<'a> LayerVisitor<'a> for RowsVisitor {
     ghost use Rattle.std.specs.Prelude.{◌≡◌, []};
     ghost use Rattle.mvt_rows.specs.Tables.{without_values};
     ghost use Rattle.mvt_rows.specs.Visiting.{AreLayerRows, Before, HasReadFeatures, HasReadValues};
@@ -175,7 +175,7 @@ impl LayerVisitor for RowsVisitor {
     fn visit_value(
         &mut self,
         _: Global,
-        payload: &[u8],
+        payload: &'a [u8],
         payload_at: u64,
         tag_at: u64,
     ) -> Result<(), MessageError> {
@@ -184,7 +184,7 @@ impl LayerVisitor for RowsVisitor {
         Ok(self.keep_within()?)
     }
 
-    fn visit_keys(&mut self, _: Global, keys: &[&str], _: usize) -> Result<(), AllocError> {
+    fn visit_keys(&mut self, _: Global, keys: &[&'a str], _: usize) -> Result<(), AllocError> {
         self.table.add_keys(keys)?;
         self.keep_within()
     }

@@ -1,6 +1,6 @@
 //! What the rows of features say.
 ghost use Rattle.std.specs.Prelude.{◌≡◌, ◌<◌, ◌^◌, List, Some, None, length, IfOk, IfErr, IfSome, OnOk, if◌then◌else◌};
-ghost use Rattle.mvt_attrs.specs.declared.value.Value.{Value as AValue};
+ghost use Rattle.mvt_attrs.specs.Values.{Value as AValue};
 ghost use Rattle.mvt_rows.specs.Lent.{table_of};
 ghost use Rattle.mvt_rows.specs.RowsFaults.{feature_cause};
 ghost use Rattle.mvt_rows.specs.TileRows.{id_of};

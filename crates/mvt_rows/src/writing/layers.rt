@@ -2,7 +2,7 @@
 ghost use Rattle.std.specs.Prelude.{◌≡◌, ◌∷◌, ◌++◌, [], List, None, Some, IfOk, IfErr, OnOk};
 ghost use Rattle.mvt_base.specs.declared.TheConstants.{LIMIT as the_limit};
 ghost use Rattle.mvt_base.specs.Related.{AreRelated};
-ghost use Rattle.mvt_attrs.specs.declared.value.Value.{Value as AValue};
+ghost use Rattle.mvt_attrs.specs.Values.{Value as AValue};
 ghost use Rattle.mvt_attrs.specs.FirstUses.{lent};
 ghost use Rattle.mvt_feature.specs.declared.feature.Feature.{Feature};
 ghost use Rattle.mvt_message.specs.declared.item.Layer.{Layer};
@@ -20,7 +20,7 @@ use crate::rows::{FeatureRow, LayerRow, Rows};
 use crate::rows_cause::RowsCause;
 use crate::rows_error::{RowError, if_any};
 use crate::work::Work;
-use mvt_attrs::{LayerKeys, Value};
+use mvt_attrs::{LayerKeys, ValueRef};
 use mvt_feature::Scratch;
 use mvt_message::LayerWriter;
 use mvt_wire::PackedNumbers;
@@ -59,7 +59,7 @@ pub(crate) fn layer_payload(
 #[derive(Drop)]
 struct LayerParts<'a> {
     keys: Vec<&'a str>,
-    values: Vec<Value>,
+    values: Vec<ValueRef<'a>>,
     rows: &'a [FeatureRow],
 }
 
@@ -115,7 +115,7 @@ fn write_features(
     keys: &[&str],
     of_layer: &[FeatureRow],
     work: &mut Work,
-    writer: &mut LayerWriter,
+    writer: &mut LayerWriter<'_>,
 ) -> Result<(), RowError>
     ensures written { (values : List AValue) → AreInRange (lent keys.now) values
         → HasWrittenUpTo the_limit (lent keys.now) values writer.old []
@@ -148,7 +148,7 @@ fn write_feature(
     keys: &mut LayerKeys<'_>,
     work: &mut Work,
     lists: &mut FeatureLists,
-    writer: &mut LayerWriter,
+    writer: &mut LayerWriter<'_>,
 ) -> Result<(), RowError>
     ensures written { (values : List AValue) (features : List Feature)
         → AreInRange keys.old values

@@ -9,8 +9,7 @@ use super::parts::text;
 use crate::rows::ValueRow;
 use crate::rows_error::RowPartError;
 use crate::work::Work;
-use mvt_attrs::Value;
-use mvt_base::Text;
+use mvt_attrs::{TextRef, ValueRef};
 use std::alloc::Global;
 
 /// 0 or 1.
@@ -32,34 +31,29 @@ fn float(bits: u64) -> Option<u32>
 }
 
 /// A value that is no text.
-fn number(kind: u32, bits: u64) -> Option<Value>
+fn number<'a>(kind: u32, bits: u64) -> Option<ValueRef<'a>>
     ensures number { result ≡ number_of kind bits }
     ensures valid { IfSome result ValidValue }
 {
     match kind {
-        2 => Some(Value::Float(float(bits)?)),
-        3 => Some(Value::Double(bits)),
-        4 => Some(Value::Int(bits.cast_signed())),
-        5 => Some(Value::Uint(bits)),
-        6 => Some(Value::Sint(bits.cast_signed())),
-        7 => Some(Value::Bool(truth(bits)?)),
+        2 => Some(ValueRef::Float(float(bits)?)),
+        3 => Some(ValueRef::Double(bits)),
+        4 => Some(ValueRef::Int(bits.cast_signed())),
+        5 => Some(ValueRef::Uint(bits)),
+        6 => Some(ValueRef::Sint(bits.cast_signed())),
+        7 => Some(ValueRef::Bool(truth(bits)?)),
         _ => None,
     }
 }
 
-fn value(
-    alloc: Global,
-    texts: &[u8],
-    row: &ValueRow,
-    work: &mut Work,
-) -> Result<Value, RowPartError>
+fn value<'a>(texts: &'a [u8], row: &ValueRow, work: &mut Work) -> Result<ValueRef<'a>, RowPartError>
     ensures value { IfOk result (λ value. value_of texts.now row.now ≡ Some value) }
     ensures valid { IfOk result ValidValue }
     ensures none { IfErr result (IfNoPart (value_of texts.now row.now ≡ None)) }
 {
     if row.kind == 1 {
         let text = text(texts, row.text, work)?;
-        return Ok(Value::Text(Text::from_str(alloc, text)?));
+        return Ok(ValueRef::Text(TextRef::of(text)));
     }
     match number(row.kind, row.bits) {
         Some(value) => Ok(value),
@@ -67,13 +61,13 @@ fn value(
     }
 }
 
-/// The values of a layer.
-pub(crate) fn values(
+/// The values of a layer, lent.
+pub(crate) fn values<'a>(
     alloc: Global,
-    texts: &[u8],
+    texts: &'a [u8],
     rows: &[ValueRow],
     work: &mut Work,
-) -> Result<Vec<Value>, RowPartError>
+) -> Result<Vec<ValueRef<'a>>, RowPartError>
     ensures values { IfOk result (λ values. each (value_of texts.now) rows.now
         ≡ Some values.items) }
     ensures valid { IfOk result (λ values. AllByRecursion ValidValue values.items) }
@@ -81,7 +75,7 @@ pub(crate) fn values(
 {
     let mut values = Vec::with_capacity(alloc, rows.len())?;
     for row in rows {
-        values.push(value(alloc, texts, row, work)?)?;
+        values.push(value(texts, row, work)?)?;
     }
     Ok(values)
 }

@@ -37,11 +37,11 @@ loop-attribute-preserved c =
     let attributes = c.args.attributes.now in
     let i = c.loop-attribute.attribute-index in
     let a = c.attribute-item.result in
-    let key : IsPut c.loop-attribute.keys c.place_near.new.self a.key =
+    let key : IsPut c.loop-attribute.keys c.place_key.new.keys a.key =
     record { kept = c.in_ok-key.ensures.kept; added = c.in_ok-key.ensures.added } in
-    let value : IsPut c.loop-attribute.values c.place_near-in-loop-attribute.new.self a.value =
+    let value : IsPut c.loop-attribute.values c.place_value.new.values a.value =
     record { kept = c.in_ok-value.ensures.kept; added = c.in_ok-value.ensures.added } in
-    let of_key : slice_get c.place_near.new.self c.in_ok-key.key ≡ Some a.key = c.in_ok-key.ensures.index in
+    let of_key : slice_get c.place_key.new.keys c.in_ok-key.key ≡ Some a.key = c.in_ok-key.ensures.index in
     record {
       so_far = c.loop-attribute.invariant.so_far ++ c.in_ok-key.key ∷ (c.in_ok-value.value ∷ []);
       tags =
@@ -49,7 +49,7 @@ loop-attribute-preserved c =
           ∙ ap (λ ts. ts ++ c.in_ok-key.key ∷ (c.in_ok-value.value ∷ [])) c.loop-attribute.invariant.tags
           ∙ append_assoc c.args.tags.now.items c.loop-attribute.invariant.so_far (c.in_ok-key.key ∷ (c.in_ok-value.value ∷ []));
       names =
-          names_more c.loop-attribute.keys c.place_near.new.self c.loop-attribute.values c.place_near-in-loop-attribute.new.self
+          names_more c.loop-attribute.keys c.place_key.new.keys c.loop-attribute.values c.place_value.new.values
           c.loop-attribute.invariant.so_far attributes i a c.in_ok-key.key c.in_ok-value.value
           c.loop-attribute.invariant.names c.loop-attribute-test.true c.attribute-item.is
           (pool_longer bytes_eq bytes_eq-Decides (λ (b : Attribute). b.key) _ _ _ key)
@@ -106,10 +106,10 @@ returns-in_err-key-clause-memory c =
     λ h. (
       c.loop-attribute.attribute-index,
       record { within = omega arith; keys_are = inl (stays ∙ all.keys); values_are = inl all.values },
-      reported_tags c.args.keys.now c.loop-attribute.keys c.place_near.new.self c.args.values.now c.loop-attribute.values
+      reported_tags c.args.keys.now c.loop-attribute.keys c.place_key.new.keys c.args.values.now c.loop-attribute.values
           c.loop-attribute.values all.so_far c.args.tags.now.items c.loop-attribute.tags.items _
           all.keys all.values all.names (not_longer _ _ stays) (not_longer _ _ refl) all.tags,
-      not_full_at c.args.attributes.now c.loop-attribute.attribute-index c.attribute-item.result _ c.place_near.new.self
+      not_full_at c.args.attributes.now c.loop-attribute.attribute-index c.attribute-item.result _ c.place_key.new.keys
           c.loop-attribute.values c.attribute-item.is refl
           (λ full. (let k = rw p.1 at h in let q = p.2 in
           let other = c.in_err-key.ensures.full.1
@@ -119,7 +119,7 @@ returns-in_err-key-clause-memory c =
 
 pub returns-in_err-value-clause-left : goal.returns-in_err-value-clause-left
 returns-in_err-value-clause-left c =
-    let key : IsPut c.loop-attribute.keys c.place_near.new.self c.attribute-item.result.key =
+    let key : IsPut c.loop-attribute.keys c.place_key.new.keys c.attribute-item.result.key =
     record { kept = c.in_ok-key.ensures.kept; added = c.in_ok-key.ensures.added } in
     on_err c.from_residual-in_err-value.result (
       c.loop-attribute.attribute-index,
@@ -147,7 +147,7 @@ returns-in_err-value-clause-memory c =
     let all = c.loop-attribute.invariant in
     let a = c.attribute-item.result in
     let stays = c.in_err-value.ensures.unchanged in
-    let key : IsPut c.loop-attribute.keys c.place_near.new.self c.attribute-item.result.key =
+    let key : IsPut c.loop-attribute.keys c.place_key.new.keys c.attribute-item.result.key =
     record { kept = c.in_ok-key.ensures.kept; added = c.in_ok-key.ensures.added } in
     λ h. (
       c.loop-attribute.attribute-index,
@@ -159,13 +159,13 @@ returns-in_err-value-clause-memory c =
             all.keys c.loop-attribute-test.true c.attribute-item.is refl key);
         values_are = inl (stays ∙ all.values);
       },
-      reported_tags c.args.keys.now c.loop-attribute.keys c.place_near.new.self c.args.values.now c.loop-attribute.values
-          c.place_near-in-loop-attribute.new.self all.so_far c.args.tags.now.items c.loop-attribute.tags.items _
+      reported_tags c.args.keys.now c.loop-attribute.keys c.place_key.new.keys c.args.values.now c.loop-attribute.values
+          c.place_value.new.values all.so_far c.args.tags.now.items c.loop-attribute.tags.items _
           all.keys all.values all.names (pool_longer bytes_eq bytes_eq-Decides (λ (b : Attribute). b.key) _ _ _ key)
           (not_longer _ _ stays) all.tags,
-      not_full_at c.args.attributes.now c.loop-attribute.attribute-index a _ c.place_near.new.self
-          c.place_near-in-loop-attribute.new.self c.attribute-item.is refl
-          (λ full. full.1 (contains_at c.place_near.new.self c.in_ok-key.key c.attribute-item.result.key c.in_ok-key.ensures.index))
+      not_full_at c.args.attributes.now c.loop-attribute.attribute-index a _ c.place_key.new.keys
+          c.place_value.new.values c.attribute-item.is refl
+          (λ full. full.1 (contains_at c.place_key.new.keys c.in_ok-key.key c.attribute-item.result.key c.in_ok-key.ensures.index))
           (λ there full. (let k = rw p.1 at h in let q = p.2 in
           let other = c.in_err-value.ensures.full.1
           (subst (λ vs. (length vs ≡ LIMIT) × (Contains vs a.value → ⊥)) stays full) in cc)),
@@ -174,9 +174,9 @@ returns-in_err-value-clause-memory c =
 pub returns-in_err-push_pair-clause-left : goal.returns-in_err-push_pair-clause-left
 returns-in_err-push_pair-clause-left c =
     let a = c.attribute-item.result in
-    let key : IsPut c.loop-attribute.keys c.place_near.new.self c.attribute-item.result.key =
+    let key : IsPut c.loop-attribute.keys c.place_key.new.keys c.attribute-item.result.key =
     record { kept = c.in_ok-key.ensures.kept; added = c.in_ok-key.ensures.added } in
-    let value : IsPut c.loop-attribute.values c.place_near-in-loop-attribute.new.self a.value =
+    let value : IsPut c.loop-attribute.values c.place_value.new.values a.value =
     record { kept = c.in_ok-value.ensures.kept; added = c.in_ok-value.ensures.added } in
     on_err c.from_residual-in_err-push_pair.result (
       (c.loop-attribute.attribute-index + 1),
@@ -196,9 +196,9 @@ pub returns-in_err-push_pair-clause-memory : goal.returns-in_err-push_pair-claus
 returns-in_err-push_pair-clause-memory c =
     let all = c.loop-attribute.invariant in
     let a = c.attribute-item.result in
-    let key : IsPut c.loop-attribute.keys c.place_near.new.self c.attribute-item.result.key =
+    let key : IsPut c.loop-attribute.keys c.place_key.new.keys c.attribute-item.result.key =
     record { kept = c.in_ok-key.ensures.kept; added = c.in_ok-key.ensures.added } in
-    let value : IsPut c.loop-attribute.values c.place_near-in-loop-attribute.new.self a.value =
+    let value : IsPut c.loop-attribute.values c.place_value.new.values a.value =
     record { kept = c.in_ok-value.ensures.kept; added = c.in_ok-value.ensures.added } in
     λ h. (
       c.loop-attribute.attribute-index,
@@ -213,14 +213,14 @@ returns-in_err-push_pair-clause-memory c =
             (values_more c.args.values.now c.loop-attribute.values _ c.args.attributes.now c.loop-attribute.attribute-index a
             all.values c.loop-attribute-test.true c.attribute-item.is value);
       },
-      reported_tags c.args.keys.now c.loop-attribute.keys c.place_near.new.self c.args.values.now c.loop-attribute.values
-          c.place_near-in-loop-attribute.new.self all.so_far c.args.tags.now.items c.push_pair.new.tags.items _
+      reported_tags c.args.keys.now c.loop-attribute.keys c.place_key.new.keys c.args.values.now c.loop-attribute.values
+          c.place_value.new.values all.so_far c.args.tags.now.items c.push_pair.new.tags.items _
           all.keys all.values all.names (pool_longer bytes_eq bytes_eq-Decides (λ (b : Attribute). b.key) _ _ _ key)
           (pool_longer equal_values equal_values-Decides (λ (b : Attribute). b.value) _ _ _ value)
           (c.in_err-push_pair.ensures.err ∙ all.tags),
-      not_full_at c.args.attributes.now c.loop-attribute.attribute-index a _ c.place_near.new.self
-          c.place_near-in-loop-attribute.new.self c.attribute-item.is refl
-          (λ full. full.1 (contains_at c.place_near.new.self c.in_ok-key.key c.attribute-item.result.key c.in_ok-key.ensures.index))
+      not_full_at c.args.attributes.now c.loop-attribute.attribute-index a _ c.place_key.new.keys
+          c.place_value.new.values c.attribute-item.is refl
+          (λ full. full.1 (contains_at c.place_key.new.keys c.in_ok-key.key c.attribute-item.result.key c.in_ok-key.ensures.index))
           (λ there full.
-          full.1 (contains_at c.place_near-in-loop-attribute.new.self c.in_ok-value.value a.value c.in_ok-value.ensures.index)),
+          full.1 (contains_at c.place_value.new.values c.in_ok-value.value a.value c.in_ok-value.ensures.index)),
     )

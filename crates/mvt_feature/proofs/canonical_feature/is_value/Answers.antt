@@ -1,5 +1,5 @@
 use Rattle.std.proofs.Common.{ap, sym, ap₂}
-use Rattle.mvt_attrs.specs.declared.value.Value.TheVariants.{Text}
+use Rattle.mvt_attrs.specs.declared.value.ValueOf.TheVariants.{Text}
 use Rattle.mvt_wire.specs.Field.{content_of}
 use Rattle.mvt_feature.specs.Canonical.{plain}
 use Rattle.mvt_feature.proofs.canonical_feature.is_value.Goals as goal

@@ -1,4 +1,4 @@
-use Rattle.std.proofs.Common.{◌≡◌, ◌++◌, ◌∷◌, [], refl, ap, ◌∙◌}
+use Rattle.std.proofs.Common.{◌≡◌, ◌++◌, ◌∷◌, [], refl, ap, arith, ◌∙◌}
 use Rattle.std.proofs.lemmas.Result.{err_from_is_err_and}
 use Rattle.mvt_attrs.specs.FirstUses.{lent}
 use Rattle.mvt_wire.specs.Field.{entry_of}
@@ -16,12 +16,20 @@ loop-field-init g c = (
   c.new-keys.ensures,
 )
 
-pub visit_field-requires-clause-few : goal.visit_field-requires-clause-few
-visit_field-requires-clause-few g c =
+pub visit_field-requires : goal.visit_field-requires
+visit_field-requires g c =
     let (items, held, are, has) = c.requires.held in
     let so_far = c.loop-field.invariant.2 items held are has in
-    features_few (entry_of c.in-Ok.field) so_far c.args.payload.now c.loop-field.field-iterator.to_come c.loop-field.invariant.1
-    c.requires.small
+    let ends = (rw c.in-Ok.is at c.in-Some.ensures.steps).0.1 in
+    let walk = c.loop-field.invariant.1 in
+    λ k. (
+      (refl, tt),
+      (
+        features_few (entry_of c.in-Ok.field) so_far c.args.payload.now c.loop-field.field-iterator.to_come c.loop-field.invariant.1
+            c.requires.small,
+        omega (arith, ends.1, walk.place, walk.bound, c.requires.fits),
+      ),
+    )
 
 pub loop-field-preserved : goal.loop-field-preserved
 loop-field-preserved g c =

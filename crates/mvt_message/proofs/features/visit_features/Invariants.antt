@@ -1,6 +1,6 @@
 use Rattle.std.proofs.Common.{◌≡◌, List, [], length}
 use Rattle.mvt_attrs.specs.FirstUses.{lent}
-use Rattle.mvt_attrs.specs.declared.value.Value.{Value}
+use Rattle.mvt_attrs.specs.Values.{Value}
 use Rattle.mvt_wire.specs.Field.{Entry}
 use Rattle.mvt_feature.specs.Walks.{Walk}
 use Rattle.mvt_message.specs.Inner.{AreFeaturesHeld}

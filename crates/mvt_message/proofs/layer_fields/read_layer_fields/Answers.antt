@@ -1,4 +1,4 @@
-use Rattle.std.proofs.Common.{[], ◌∷◌, ◌++◌, ◌∙◌, refl, ap}
+use Rattle.std.proofs.Common.{[], ◌∷◌, ◌++◌, ◌∙◌, refl, ap, arith}
 use Rattle.mvt_wire.specs.Field.{entry_of}
 use Rattle.mvt_wire.specs.Fields.{Ahead}
 use Rattle.mvt_feature.proofs.FeatureLaws.{walks_start, walks_step}
@@ -19,16 +19,25 @@ loop-field-init g c = (
   λ items has before. before,
 )
 
-pub take-requires-clause-features : goal.take-requires-clause-features
-take-requires-clause-features g c =
+pub take-requires : goal.take-requires
+take-requires g c =
     let (items, has) = c.requires.start in
-    header_few c.loop-field.invariant.1 (c.loop-field.invariant.2 items has).0 c.requires.small
-
-pub take-requires-clause-values : goal.take-requires-clause-values
-take-requires-clause-values g c =
-    let (items, has) = c.requires.start in
-    values_few c.args.payload.now c.loop-field.field-iterator.to_come (c.loop-field.invariant.2 items has).1
-    c.loop-field.invariant.1 c.requires.small
+    let ends = (rw c.in-Ok.is at c.in-Some.ensures.steps).0.1 in
+    let walk = c.loop-field.invariant.1 in
+    λ k. (
+      (refl, tt),
+      (
+        header_few c.loop-field.invariant.1 (c.loop-field.invariant.2 items has).0 c.requires.small,
+        (
+          values_few c.args.payload.now c.loop-field.field-iterator.to_come (c.loop-field.invariant.2 items has).1
+              c.loop-field.invariant.1 c.requires.small,
+          (
+            omega (arith, ends.0, walk.place, walk.bound, c.requires.fits),
+            omega (arith, ends.1, walk.place, walk.bound, c.requires.fits),
+          ),
+        ),
+      ),
+    )
 
 pub loop-field-preserved : goal.loop-field-preserved
 loop-field-preserved g c =

@@ -17,17 +17,7 @@ returns-in-Some-clause-item c =
       c.in_ok-extend_from_slice.ensures.items ∙ ap (λ b. c.args.out.now.items ++ b) (sym (canonical_foreign version payload)),
     )
 
-pub returns-in_ok-append_copied_layer-in-Ok-Copied-clause-ok : goal.returns-in_ok-append_copied_layer-in-Ok-Copied-clause-ok
-returns-in_ok-append_copied_layer-in-Ok-Copied-clause-ok c =
-    let (layer, is, valid, name, canonical) = rw c.in-Ok-Copied.field-0-is at c.in-Ok-Copied.ensures in
-    item_or_fault_clean c.args.payload.now c.args.payload_at c.args.tag_at (Layer layer) is
-
-pub returns-in_ok-append_written-in-Ok-Written-clause-ok : goal.returns-in_ok-append_written-in-Ok-Written-clause-ok
-returns-in_ok-append_written-in-Ok-Written-clause-ok c =
-    let (layer, is, valid, name, told, canonical) = rw c.in-Ok-Written.field-0-is at c.in-Ok-Written.ensures in
-    item_or_fault_clean c.args.payload.now c.args.payload_at c.args.tag_at (Layer layer) is
-
-pub returns-in_ok-append_ordered-in-Ok-Ordered-clause-ok : goal.returns-in_ok-append_ordered-in-Ok-Ordered-clause-ok
-returns-in_ok-append_ordered-in-Ok-Ordered-clause-ok c =
-    let (layer, is, valid, name, canonical) = rw c.in-Ok-Ordered.field-0-is at c.in-Ok-Ordered.ensures in
+pub returns-in_ok-append_copied-in-Ok-clause-ok : goal.returns-in_ok-append_copied-in-Ok-clause-ok
+returns-in_ok-append_copied-in-Ok-clause-ok c =
+    let (layer, is, valid, name, canonical) = c.in-Ok.ensures in
     item_or_fault_clean c.args.payload.now c.args.payload_at c.args.tag_at (Layer layer) is

@@ -27,10 +27,10 @@ returns-in-None-clause-fault g c =
     let fault = head_none c.args.payload.now c.args.payload_at c.args.tag_at c.in-Ok.ensures.whole header.version.0 none in
     rw c.fault_at.ensures (head_reported c.args.payload.now c.args.payload_at c.args.tag_at (Fault None c.args.tag_at NoVersion) fault)
 
-pub visit_parts-requires-clause-front : goal.visit_parts-requires-clause-front
-visit_parts-requires-clause-front g c =
+pub visit_parts-requires : goal.visit_parts-requires
+visit_parts-requires g c =
     let (items, has) = c.requires.start in
-    (items, c.in-Ok.ensures.front items has)
+    λ k. ((refl, tt), (c.requires.small, (c.requires.fits, (c.in-Ok.ensures.whole, (items, c.in-Ok.ensures.front items has)))))
 
 pub returns-then-version-eq-VERSION_2-clause-ok : goal.returns-then-version-eq-VERSION_2-clause-ok
 returns-then-version-eq-VERSION_2-clause-ok g c =

@@ -1,4 +1,4 @@
-use Rattle.std.proofs.Common.{◌≡◌, [], None, ap, refl, sym, subst, ◌∙◌}
+use Rattle.std.proofs.Common.{◌≡◌, [], None, ap, arith, refl, sym, subst, ◌∙◌}
 use Rattle.std.specs.Option.{option_copied}
 use Rattle.std.proofs.lemmas.Result.{err_from_is_err_and}
 use Rattle.mvt_attrs.specs.FirstUses.{lent}
@@ -18,20 +18,32 @@ returns-in-None-clause-fault g c =
     let none : None ≡ name_in fields = ap option_copied (sym c.in-None.is) ∙ head.name_is in
     rw c.fault_at.ensures (name_reported c.args.payload_at c.args.tag_at fields head.clean none)
 
-pub visit_features-requires-clause-features : goal.visit_features-requires-clause-features
-visit_features-requires-clause-features g c =
+pub visit_features-requires : goal.visit_features-requires
+visit_features-requires g c =
     let (items, front) = c.requires.front in
-    front.0.features_are
-
-pub visit_features-requires-clause-held : goal.visit_features-requires-clause-held
-visit_features-requires-clause-held g c =
-    let (items, front) = c.requires.front in
-    let values = front.1 in (
-      items,
-      values.values,
-      sym values.counted,
-      subst (λ ks. g.V.LayerVisitor.has_features items ks values.values c.visit_keys.new.self [] [])
-          (ap lent (c.deref.ensures.value ∙ sym c.deref-2.ensures.value)) (c.in_ok-visit_keys.ensures items values.values values.has),
+    let values = front.1 in
+    λ k. (
+      (refl, tt),
+      (
+        omega (arith, c.requires.small),
+        (
+          c.requires.fits,
+          (
+            c.requires.whole,
+            (
+              front.0.features_are,
+              (
+                items,
+                values.values,
+                sym values.counted,
+                subst (λ ks. g.V.LayerVisitor.has_features items ks values.values c.visit_keys.new.self [] [])
+                    (ap lent (c.deref.ensures.value ∙ sym c.deref-2.ensures.value))
+                    (c.in_ok-visit_keys.ensures items values.values values.has),
+              ),
+            ),
+          ),
+        ),
+      ),
     )
 
 pub returns-in_err-visit_features-clause-fault : goal.returns-in_err-visit_features-clause-fault

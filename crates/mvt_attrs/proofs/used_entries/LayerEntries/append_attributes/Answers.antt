@@ -1,7 +1,7 @@
 -- What `append_tags` says of the pools is said of what is used, since no key and no value was added.
 use Rattle.std.proofs.Common.{◌≡◌, ◌⊎◌, ◌<◌, ℕ, List, ◌++◌, length, take, OnErr, OnOk}
 use Rattle.mvt_base.specs.declared.TheConstants.{LIMIT}
-use Rattle.mvt_attrs.specs.declared.value.Value.{Value}
+use Rattle.mvt_attrs.specs.Values.{Value}
 use Rattle.mvt_attrs.specs.declared.used_entries.LayerEntries.{LayerEntries}
 use Rattle.mvt_attrs.specs.Placed.{ArePlaced, AreReported, IsFullAt}
 use Rattle.mvt_attrs.specs.Pools.{key_pool, value_pool}

@@ -2,7 +2,7 @@ use Rattle.std.proofs.Common.{◌≡◌, List, [], take}
 use Rattle.mvt_attrs.specs.FirstUses.{lent}
 use Rattle.mvt_base.specs.declared.TheConstants.{LIMIT}
 use Rattle.mvt_base.specs.Related.{AreRelated}
-use Rattle.mvt_attrs.specs.declared.value.Value.{Value}
+use Rattle.mvt_attrs.specs.Values.{Value}
 use Rattle.mvt_feature.specs.declared.feature.Feature.{Feature}
 use Rattle.mvt_message.specs.Rewriting.{HasWrittenUpTo}
 use Rattle.mvt_rows.specs.Lent.{table_of}

@@ -17,8 +17,9 @@ HasGiven linted = Unit {0}
 abbrev HasFeatures : ℕ → ℕ → OfFeatures LayerFindings
 HasFeatures index extent keys values linted payloads features = AreLintedSoFar index extent values linted features
 
-pub visit_version_2-requires-clause-start : goal.visit_version_2-requires-clause-start
-visit_version_2-requires-clause-start c = ((c.args.index, c.extent_in-extent.result), c.new-linted.ensures)
+pub visit_version_2-requires : goal.visit_version_2-requires
+visit_version_2-requires c κs =
+    ((refl, tt), (c.requires.small, (c.requires.fits, ((c.args.index, c.extent_in-extent.result), c.new-linted.ensures))))
 
 pub returns-in-Ok-Layer-clause-found : goal.returns-in-Ok-Layer-clause-found
 returns-in-Ok-Layer-clause-found c = λ items found count.

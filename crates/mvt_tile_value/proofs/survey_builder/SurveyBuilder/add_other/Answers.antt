@@ -15,10 +15,11 @@ HasGiven items noted = AreNotedSoFar (length items) noted []
 abbrev HasFeatures : List Item → OfFeatures LayerNotes
 HasFeatures items keys values noted payloads features = AreNotedSoFar (length items) noted features
 
-pub visit_version_2-requires-clause-start : goal.visit_version_2-requires-clause-start
-visit_version_2-requires-clause-start c =
+pub visit_version_2-requires : goal.visit_version_2-requires
+visit_version_2-requires c κs =
     let (input, items, found, count) = c.requires.found in
-    (items, subst (λ n. AreNotedSoFar n c.new-noted.result []) (sym count) c.new-noted.ensures)
+    let start = subst (λ n. AreNotedSoFar n c.new-noted.result []) (sym count) c.new-noted.ensures in
+    ((refl, tt), (c.requires.small, (c.requires.fits, (items, start))))
 
 pub returns-in-Ok-Layer-clause-found : goal.returns-in-Ok-Layer-clause-found
 returns-in-Ok-Layer-clause-found c = λ input items found count.

@@ -1,6 +1,5 @@
 use Rattle.std.proofs.Common.{◌≡◌, [], ◌∷◌, ◌++◌, sym, subst}
 use Rattle.std.proofs.Math.Facts.{Fits-lt-pow}
-use Rattle.mvt_feature.specs.ValueRefs.{referred_value}
 use Rattle.mvt_feature.proofs.FeatureLaws.{read_is_valid_value}
 use Rattle.mvt_rows.specs.Tables.{without_values}
 use Rattle.mvt_rows.specs.Visiting.{AreLayerRows}
@@ -20,7 +19,7 @@ returns-in_err-add_value-clause-kept c = λ given values has. (
 
 pub returns-clause-value : goal.returns-clause-value
 returns-clause-value c = λ given values has.
-    let v = referred_value c.in_ok-meaning.meaning in
+    let v = c.in_ok-meaning.meaning in
     let valid = read_is_valid_value c.args.payload.now v (λ k. Fits-lt-pow (c.type_inv.payload k)) c.in_ok-meaning.ensures.value in
     let open_at = c.args.self.now.opened in
     let read = value_read given.table _ _ _ values v has.1 c.in_ok-add_value.ensures.ok in (
@@ -36,10 +35,10 @@ returns-clause-value c = λ given values has.
 
 pub returns-in_err-keep_within-clause-kept : goal.returns-in_err-keep_within-clause-kept
 returns-in_err-keep_within-clause-kept c = λ given values has.
-    let v = referred_value c.in_ok-meaning.meaning in
+    let v = c.in_ok-meaning.meaning in
     (values_kept given.table _ _ (values ++ v ∷ []) (value_read given.table _ _ _ values v has.1 c.in_ok-add_value.ensures.ok), has.2)
 
 pub returns-clause-kept : goal.returns-clause-kept
 returns-clause-kept c = λ given values has.
-    let v = referred_value c.in_ok-meaning.meaning in
+    let v = c.in_ok-meaning.meaning in
     (values_kept given.table _ _ (values ++ v ∷ []) (value_read given.table _ _ _ values v has.1 c.in_ok-add_value.ensures.ok), has.2)

@@ -1,4 +1,4 @@
-use Rattle.std.proofs.Common.{◌≡◌, [], ◌∷◌, ◌++◌, refl, sym, ap, ◌∙◌, subst}
+use Rattle.std.proofs.Common.{◌≡◌, [], ◌∷◌, ◌++◌, refl, sym, ap, arith, ◌∙◌, subst}
 use Rattle.mvt_wire.specs.Split.{split}
 use Rattle.mvt_message.specs.declared.item.Item.TheVariants.{Layer as ALayer, Foreign as AForeign}
 use Rattle.mvt_message.specs.declared.visiting.Visited.TheVariants.{Layer, Foreign}
@@ -24,16 +24,19 @@ HasFeatures given keys values rows payloads features =
     AreLayerRows rows.table rows.opened given.items keys values features
     × HasReadFeatures given.table rows.table rows.opened keys values payloads features × (rows.most ≡ given.most)
 
-pub visit_version_2-requires-clause-start : goal.visit_version_2-requires-clause-start
-visit_version_2-requires-clause-start c =
+pub visit_version_2-requires : goal.visit_version_2-requires
+visit_version_2-requires c κs =
     let (given, payloads, items, has, few) = c.requires.known in
-    let at = c.places-self.ensures in (
-      record { table = c.args.self.now.table; items = items; most = given },
+    let at = c.places-self.ensures in
+    let rows = c.args.self.now in
+    let opened =
+    layer_opened rows.table c.places-self.result items (ap (λ (p : Places). p.features) at) (ap (λ (p : Places). p.keys) at)
+    (ap (λ (p : Places). p.values) at) has.0 in
+    let before : Before = record { table = rows.table; items = items; most = given } in (
+      (refl, tt),
       (
-        layer_opened c.args.self.now.table c.places-self.result items (ap (λ (p : Places). p.features) at)
-            (ap (λ (p : Places). p.keys) at) (ap (λ (p : Places). p.values) at) has.0,
-        (at, refl),
-        has.2.most_is,
+        omega (arith, c.requires.fits),
+        (omega (arith, c.requires.fits), (before, (opened, (at, refl), has.2.most_is))),
       ),
     )
 
