@@ -1,6 +1,7 @@
 """Cases for `rt try --cases`: quick_cases.py FOLDER. Each is an input, the words and the output that is wanted: of the example
-tiles what other programs made of them, of the broken ones nothing, by one command each, of every fifth row of tests/program
-what stands there, of README.md's commands what it shows below them. A case takes a second; tests/program has them all."""
+tiles what other programs made of them, of the broken ones nothing, by one command each, of every 13th row of tests/program,
+so of all its commands, what stands there, of README.md's commands what it shows below them. A case takes a second;
+tests/program has them all."""
 
 import itertools
 import re
@@ -43,7 +44,7 @@ def broken_tiles(folder: Path) -> None:
 
 def of_few_bytes(folder: Path) -> None:
     for number, (words, tile, (_, output, _)) in enumerate(few_bytes.runs()):
-        if number % 5 == 0 and "" not in words:  # which a file of words can't say
+        if number % 13 == 0 and "" not in words:  # which a file of words can't say
             case(folder, f"row-{number}", words, few_bytes.octets(tile), few_bytes.encoded(output))
 
 

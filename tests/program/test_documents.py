@@ -1,5 +1,5 @@
 """The documents: each link leads to a file, and to a heading or a line that is there; the code in docs/CALLING.md stands in
-crates/mvt_uses, where it is proved; what docs/PERF.md has run, and what bench/against takes from the history, is there."""
+crates/mvt_callers, where it is proved; what docs/PERF.md has run, and what bench/against takes from the history, is there."""
 
 import re
 import subprocess
@@ -46,8 +46,8 @@ def squeezed(text):
 
 
 def quoted_code():
-    """The indented lines of docs/CALLING.md that don't stand in crates/mvt_uses."""
-    uses = squeezed(" ".join(path.read_text() for path in (TOP / "crates/mvt_uses/src").glob("*.rt")))
+    """The indented lines of docs/CALLING.md that don't stand in crates/mvt_callers."""
+    uses = squeezed(" ".join(path.read_text() for path in (TOP / "crates/mvt_callers/src").glob("*.rt")))
     for block in re.findall(r"(?:^    .*\n)+", (TOP / "docs/CALLING.md").read_text(), re.M):
         if squeezed(block.strip()) not in uses:
             yield f"docs/CALLING.md: {block.strip().splitlines()[0]}"

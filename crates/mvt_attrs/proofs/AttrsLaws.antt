@@ -3,6 +3,7 @@ pub use Rattle.mvt_attrs.proofs.ResolvedLemmas.{there_law as attributes_or_fault
 pub use Rattle.mvt_attrs.proofs.OrderedLemmas.{count_ordered as rules_in_order_count, pairs_ordered as rules_in_order_pairs, tags_ordered as rules_in_order_tags, least_law as fault_is_least_least, fault_parts as fault_is_least_parts}
 pub use Rattle.mvt_attrs.proofs.PlaceLemmas.{all_held as pools_hold, places_name as places_name_names, places_small as places_name_small, names_places as tags_stay}
 pub use Rattle.mvt_attrs.proofs.FirstUsesLemmas.{uses_in_order}
+pub use Rattle.mvt_attrs.proofs.UsedTagsLemmas.{used_by_same as uses_by_what_is_used}
 pub use Rattle.mvt_attrs.proofs.UsesLemmas.{keys_told as uses_tell_entries_keys, values_told as uses_tell_entries_values}
 use Rattle.std.proofs.Common.{bytes_eq}
 use Rattle.std.proofs.lemmas.Slice.Eq.{bytes_eq-Decides}

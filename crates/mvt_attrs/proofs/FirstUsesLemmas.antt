@@ -1,67 +1,18 @@
 -- Attributes that use the entries of a layer in order.
-use Rattle.std.proofs.Common.{◌≡◌, ℕ, ◌<◌, ◌≤◌, List, [], ◌∷◌, ◌++◌, length, take, drop, get_or, Some, Contains, slice_get, inl, inr, refl, sym, ap, subst, ◌∙◌, arith, append_assoc, append-nil}
-use Rattle.std.proofs.lemmas.List.{get_or-take, length-take-le}
-use Rattle.std.proofs.lemmas.Option.{slice_get_within, get_or_from_slice_get, slice_get-get_or}
-use Rattle.mvt_base.proofs.ListLemmas.{front_more}
+use Rattle.std.proofs.Common.{◌≡◌, ℕ, ◌<◌, ◌≤◌, List, [], ◌∷◌, ◌++◌, length, take, drop, get_or, refl, sym, ap, subst, ◌∙◌, arith, append_assoc, append-nil}
 use Rattle.mvt_base.specs.Related.{AreRelated}
 use Rattle.mvt_attrs.specs.declared.value.Attribute.{Attribute}
 use Rattle.mvt_attrs.specs.Values.{Value}
 use Rattle.mvt_attrs.specs.FirstUse.{AreDistinct}
 use Rattle.mvt_attrs.specs.FirstUses.{AreFirstUses, AreInOrder, IsUseOf}
 use Rattle.mvt_attrs.specs.Pools.{key_pool, value_pool}
-use Rattle.mvt_attrs.specs.Tags.{Names}
+use Rattle.mvt_attrs.specs.Tags.{Names, NamesOne}
 use Rattle.mvt_attrs.specs.TagRules.{pairs_of}
 use Rattle.mvt_attrs.proofs.JudgingLemmas.{named_front, named_none}
 use Rattle.mvt_attrs.proofs.ResolvedLemmas.{related_from_names}
-use Rattle.mvt_attrs.proofs.TagLemmas.{NamesOne}
-use Rattle.mvt_attrs.proofs.PlacingLemmas.{IsPut}
-use Rattle.mvt_attrs.proofs.UsesLemmas.{one_place, TagsSoFar, tags_start, tags_step}
-
-pub distinct_front : {A : Type 0} → (xs : List A) (n : ℕ) → n ≤ length xs → AreDistinct xs → AreDistinct (take n xs)
-distinct_front xs n within apart i j d before inside e =
-    let size : length (take n xs) ≡ n = length-take-le n xs within in
-    apart i j d before (omega arith) (sym (get_or-take n xs i d (omega arith)) ∙ e ∙ get_or-take n xs j d (omega arith))
-
-module _ {A : Type 0} (xs : List A) (apart : AreDistinct xs) (used : ℕ) (within : used ≤ length xs) where
-  size : length (take used xs) ≡ used
-  size = length-take-le used xs within
-
-  in_front : (k : ℕ) (x : A) → k < used → slice_get xs k ≡ Some x → slice_get (take used xs) k ≡ Some x
-  in_front k x lt at =
-      slice_get-get_or (take used xs) k x (omega (arith, size)) ∙ ap Some (get_or-take used xs k x lt ∙ get_or_from_slice_get xs k x x at)
-
-  from_front : (x : A) → Contains (take used xs) x → (k : ℕ) × (k < used) × (slice_get xs k ≡ Some x)
-  from_front x (k, lt, is) =
-      let less : k < used = omega (arith, size) in
-      (k, less, slice_get-get_or xs k x (omega arith) ∙ ap Some (sym (get_or-take used xs k x less) ∙ is))
-
-  there : (k : ℕ) (x : A) → k < used → slice_get xs k ≡ Some x → Contains (take used xs) x
-  there k x lt at = (k, omega (arith, size), get_or-take used xs k x lt ∙ get_or_from_slice_get xs k x x at)
-
-  pub use_step : (k after : ℕ) (x : A) → slice_get xs k ≡ Some x → IsUseOf used k after
-      → IsPut (take used xs) (take after xs) x × (slice_get (take after xs) k ≡ Some x) × (after ≤ length xs)
-  use_step k after x at (inl (lt, is)) =
-      let same : take after xs ≡ take used xs = ap (λ n. take n xs) is in (
-        record { kept = λ _. same; added = λ none. absurd (none (there k x lt at)) },
-        ap (λ l. slice_get l k) same ∙ in_front k x lt at,
-        omega arith,
-      )
-  use_step k after x at (inr (last, is)) =
-      let inside : k < length xs = slice_get_within xs k x at in
-      let here : slice_get xs used ≡ Some x = ap (slice_get xs) (sym last) ∙ at in
-      let longer : take after xs ≡ take used xs ++ x ∷ [] =
-      ap (λ n. take n xs) is ∙ front_more xs used x (omega arith) (sym (get_or_from_slice_get xs used x x here)) in (
-        record {
-          kept = λ has.
-              let seen = from_front x has in
-              let one : seen.0 ≡ used = one_place xs seen.0 used x apart seen.2 here in
-              absurd (let less = seen.1 in omega arith);
-          added = λ _. longer;
-        },
-        slice_get-get_or (take after xs) k x (omega (arith, length-take-le after xs (omega arith)))
-            ∙ ap Some (get_or-take after xs k x (omega arith) ∙ get_or_from_slice_get xs k x x at),
-        omega arith,
-      )
+use Rattle.mvt_attrs.specs.Inner.UsedTags.{TagsSoFar}
+use Rattle.mvt_attrs.proofs.FrontLemmas.{distinct_front, use_step}
+use Rattle.mvt_attrs.proofs.UsesLemmas.{tags_start, tags_step}
 
 -- so many entries are used by the attributes so far, and these tags name those to come
 pub record FirstUsesSoFar (keys : List (List ℕ)) (values : List Value) (attributes : List Attribute) (rest : List ℕ)

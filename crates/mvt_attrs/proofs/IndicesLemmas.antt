@@ -4,7 +4,7 @@ use Rattle.std.proofs.lemmas.Option.{slice_get_within}
 use Rattle.mvt_attrs.specs.FirstUse.{AreDistinct}
 use Rattle.mvt_attrs.specs.Inner.Marking.{IsGrouped}
 use Rattle.mvt_attrs.specs.Inner.Places.{AreIndices}
-use Rattle.mvt_attrs.proofs.UsesLemmas.{one_place}
+use Rattle.mvt_attrs.proofs.FrontLemmas.{one_place}
 
 pub grouped_apart : (texts : List (List ℕ)) (places : List ℕ) → AreDistinct texts → AreIndices places (length texts)
     → IsGrouped texts places

@@ -1,4 +1,5 @@
 -- Judging tags by the marks of their keys' places, whatever the values are.
+use Rattle.mvt_attrs.specs.Tags.{NamesOne}
 use Rattle.std.proofs.Common.{◌≡◌, ℕ, ◌+◌, ◌-◌, ◌%◌, ◌<◌, ◌≤◌, ◌==◌, Bool, true, false, not, List, [], ◌∷◌, ◌++◌, length, get_or, set, drop, Some, None, slice_get, refl, sym, ap, ◌∙◌, inl, inr, arith}
 use Rattle.std.proofs.lemmas.Option.{slice_get-get_or, slice_get_past, slice_get_within}
 use Rattle.mvt_base.specs.Related.{AreRelated}
@@ -11,7 +12,7 @@ use Rattle.mvt_attrs.specs.TagRules.{pairs_of, tag_fault, fault_of}
 use Rattle.mvt_attrs.specs.Inner.Marking.{IsGrouped, IsMarked, AreBelow, IsIndexError}
 use Rattle.mvt_attrs.proofs.MarkingLemmas.{marked_none, marked_more, repeated_before, new_before, below_marked}
 use Rattle.mvt_attrs.proofs.ResolvedLemmas.{read_faultless, there}
-use Rattle.mvt_attrs.proofs.TagLemmas.{NamesOne, Progress, progress_none, progress_more, stops_without_key, stops_without_value, stops_at_repeat}
+use Rattle.mvt_attrs.proofs.TagLemmas.{Progress, progress_none, progress_more, stops_without_key, stops_without_value, stops_at_repeat}
 
 -- whatever so many values there are, the pairs so far name attributes, and the places of their keys are marked
 abbrev pub MarkedSoFar : List (List ℕ) → List ℕ → List ℕ → ℕ → ℕ → List ℕ → List ℕ → Type 0

@@ -4,6 +4,10 @@ mod EqualityLemmas
 mod FirstUseLemmas
 mod FirstUsesLemmas
 mod PoolLemmas
+mod FrontLemmas
+mod GrownLemmas
+mod CountedLemmas
+mod UsedTagsLemmas
 mod MarkingLemmas
 mod TagLemmas
 mod ResolvedLemmas

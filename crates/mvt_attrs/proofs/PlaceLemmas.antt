@@ -11,13 +11,12 @@ use Rattle.mvt_attrs.specs.declared.value.Attribute.{Attribute}
 use Rattle.mvt_attrs.specs.FirstUse.{first_use, AreDistinct}
 use Rattle.mvt_attrs.specs.Values.{equal_values}
 use Rattle.mvt_attrs.specs.Pools.{key_pool, value_pool}
-use Rattle.mvt_attrs.specs.Tags.{Names}
+use Rattle.mvt_attrs.specs.Tags.{Names, NamesOne}
 use Rattle.mvt_attrs.specs.TagRules.{pairs_of}
 use Rattle.mvt_attrs.specs.TagPlaces.{place_in, tags_in, IsIn}
 use Rattle.mvt_attrs.proofs.EqualityLemmas.{equal_values-Decides}
 use Rattle.mvt_attrs.proofs.FirstUseLemmas.{has-first_use, has_from_Contains, Contains_from_has, first_use-again, first_use-front, first_use-own, stands_at_place, place_in-distinct}
 use Rattle.std.proofs.lemmas.Option.{slice_get_within}
-use Rattle.mvt_attrs.proofs.TagLemmas.{NamesOne}
 use Rattle.mvt_attrs.proofs.ResolvedLemmas.{names_from_related, related_from_names}
 use Rattle.mvt_attrs.proofs.PoolLemmas.{slice_get-front}
 

@@ -4,6 +4,7 @@ use Rattle.std.proofs.lemmas.List.{map_push, take_all, take-append-drop}
 use Rattle.std.proofs.lemmas.Option.{slice_get_within, get_or_from_slice_get}
 use Rattle.mvt_base.specs.declared.TheConstants.{LIMIT}
 use Rattle.mvt_base.proofs.ListLemmas.{front_more}
+use Rattle.mvt_attrs.specs.Inner.Places.{IsPut}
 use Rattle.mvt_attrs.specs.Placed.{IsFullAt}
 use Rattle.mvt_attrs.specs.Values.{Value}
 use Rattle.mvt_attrs.specs.declared.value.Attribute.{Attribute}
@@ -16,11 +17,6 @@ use Rattle.mvt_attrs.specs.Tags.{Names}
 use Rattle.mvt_attrs.specs.TagPlaces.{tags_in}
 use Rattle.mvt_attrs.proofs.FirstUseLemmas.{put, put_is, put_cases, first_use-push, first_use-own, first_use-distinct}
 use Rattle.mvt_attrs.proofs.PlaceLemmas.{names_longer, names_push, names_places, pool_grows}
-
--- what placing x promises of a pool
-pub record IsPut {A : Type 0} (pool after : List A) (x : A) : Type 0 where
-  pub kept : Contains pool x → after ≡ pool
-  pub added : (Contains pool x → ⊥) → after ≡ pool ++ x ∷ []
 
 module _ {A : Type 0} (same : A → A → Bool) (decides : (x y : A) → Decides (same x y) (x ≡ y)) (part : Attribute → A) where
   -- nothing placed yet

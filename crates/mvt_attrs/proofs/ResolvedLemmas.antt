@@ -13,9 +13,9 @@ use Rattle.mvt_base.proofs.TableLemmas.{when_none}
 use Rattle.mvt_base.proofs.ListLemmas.{related-append, related_once}
 use Rattle.mvt_attrs.specs.Values.{Value}
 use Rattle.mvt_attrs.specs.declared.value.Attribute.{Attribute}
-use Rattle.mvt_attrs.specs.Tags.{Names, HasDistinctKeys, Resolved, has_key}
+use Rattle.mvt_attrs.specs.Tags.{Names, HasDistinctKeys, Resolved, has_key, NamesOne}
 use Rattle.mvt_attrs.specs.TagRules.{pairs_of, name_one_key, rules_of_pair, tag_fault}
-use Rattle.mvt_attrs.proofs.TagLemmas.{NamesOne, Progress, repeats-related, faultless_pair, no_pair_left, chain, tag_fault-even, tag_fault-odd}
+use Rattle.mvt_attrs.proofs.TagLemmas.{Progress, repeats-related, faultless_pair, no_pair_left, chain, tag_fault-even, tag_fault-odd}
 
 -- ---- keys that differ
 

@@ -14,11 +14,8 @@ use Rattle.mvt_attrs.specs.Values.{Value}
 use Rattle.mvt_attrs.specs.declared.value.Attribute.{Attribute}
 use Rattle.mvt_attrs.specs.declared.resolving.TagCause.{TagCause}
 use Rattle.mvt_attrs.specs.declared.resolving.TagCause.TheVariants.{OddTags, KeyIndex, ValueIndex, RepeatedKey}
+use Rattle.mvt_attrs.specs.Tags.{NamesOne}
 use Rattle.mvt_attrs.specs.TagRules.{pairs_of, are_same_texts, name_one_key, count_rules, rules_of_pair, pair_rules, tag_fault}
-
--- a pair of indices names an attribute
-abbrev pub NamesOne : List (List ℕ) → List Value → ℕ × ℕ → Attribute → Type 0
-NamesOne keys values pair a = (slice_get keys pair.0 ≡ Some a.key) × (slice_get values pair.1 ≡ Some a.value)
 
 -- the pairs before the rest of the tags name the attributes, and break no rule
 pub record Progress (keys : List (List ℕ)) (values : List Value) (tags rest : List ℕ) (attributes : List Attribute) : Type 0 where

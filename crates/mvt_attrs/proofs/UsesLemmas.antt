@@ -1,154 +1,130 @@
 -- Entries that are known by their places, and those of them that are used.
-use Rattle.std.proofs.Common.{◌≡◌, ◌≢◌, ◌⊎◌, ℕ, zero, suc, ◌+◌, ◌-◌, ◌<◌, ◌≤◌, Bool, List, [], ◌∷◌, ◌++◌, length, map, set, get_or, drop, replicate, Some, Contains, Decides, bytes_eq, slice_get, slice_index, inl, inr, refl, sym, ap, ap₂, subst, ◌∙◌, ⊎_elim, arith, append_assoc, append-nil}
+use Rattle.std.proofs.Common.{◌≡◌, ◌≢◌, ◌⊎◌, ℕ, zero, suc, ◌+◌, ◌-◌, ◌<◌, ◌≤◌, Bool, List, [], ◌∷◌, ◌++◌, Option, length, map, set, get_or, drop, take, Some, None, Contains, Decides, bytes_eq, slice_get, slice_index, inl, inr, refl, sym, ap, ap₂, subst, ◌∙◌, ⊎_elim, arith, append_assoc, append-nil}
 use Rattle.std.specs.Option.{option_to_list}
-use Rattle.std.proofs.lemmas.Bool.{cases_eq, cases_lt}
-use Rattle.std.proofs.lemmas.List.{get_or_default, get_or_past, get_or-set_same, get_or-set_other, get_or_append_left, length_push, length-set, length-replicate, get_or-replicate, map-append, nil_from_length}
-use Rattle.std.proofs.lemmas.Option.{slice_get_within, get_or_from_slice_get, slice_get-get_or}
+use Rattle.std.proofs.lemmas.Bool.{cases_eq}
+use Rattle.std.proofs.lemmas.List.{get_or_default, get_or-set_same, get_or-set_other, get_or_append_left, length_push, length-set, map-append}
+use Rattle.std.proofs.lemmas.Option.{slice_get_within, slice_get-get_or}
 use Rattle.std.proofs.Math.Seq.{get_or-append_seam}
 use Rattle.std.proofs.lemmas.Slice.Eq.{bytes_eq-Decides}
 use Rattle.mvt_attrs.specs.declared.value.Attribute.{Attribute}
 use Rattle.mvt_attrs.specs.Values.{Value}
 use Rattle.mvt_attrs.specs.FirstUse.{AreDistinct, first_use}
-use Rattle.mvt_attrs.specs.Inner.Places.{AreFirstMarks, AreIndices}
-use Rattle.mvt_attrs.specs.Pools.{key_pool, value_pool}
-use Rattle.mvt_attrs.specs.Tags.{Names}
+use Rattle.mvt_attrs.specs.Inner.Places.{IsPut, AreFirstMarks}
+use Rattle.mvt_attrs.specs.Inner.UsedTags.{TagsSoFar, UsedSoFar}
+use Rattle.mvt_attrs.specs.Tags.{Names, NamesOne}
 use Rattle.mvt_attrs.specs.TagPlaces.{tags_in}
 use Rattle.mvt_attrs.specs.TagRules.{pairs_of}
-use Rattle.mvt_attrs.specs.Using.{AreUses, AreUsesOf, UsesAre, HasUses, IsUsedBy, entries_at, entries_of, used_in, used_of}
+use Rattle.mvt_attrs.specs.Using.{AreAllUsed, AreCounted, AreUses, AreUsesOf, UsesAre, HasUses, IsUsedBy, entries_at, entries_in, entries_of, used_in, used_of}
 use Rattle.mvt_attrs.specs.Values.{equal_values}
 use Rattle.mvt_base.specs.Related.{AreRelated}
 use Rattle.mvt_attrs.specs.declared.used_entries.LayerEntries.{LayerEntries}
 use Rattle.mvt_attrs.specs.declared.used_entries.UsedEntries.{UsedEntries}
 use Rattle.mvt_attrs.proofs.JudgingLemmas.{named_front, named_none}
 use Rattle.mvt_attrs.proofs.ResolvedLemmas.{related_from_names, there}
-use Rattle.mvt_attrs.proofs.TagLemmas.{NamesOne}
 use Rattle.mvt_attrs.proofs.EqualityLemmas.{equal_values-Decides}
+use Rattle.mvt_attrs.proofs.FrontLemmas.{distinct_front, one_place}
 use Rattle.mvt_attrs.proofs.FirstUseLemmas.{put, put_is, put_cases, first_use-push, first_use-own, first_use-distinct}
 use Rattle.mvt_attrs.proofs.PlaceLemmas.{names_push, names_longer, names_places}
-use Rattle.mvt_attrs.proofs.PlacingLemmas.{IsPut, names_none}
+use Rattle.mvt_attrs.proofs.PlacingLemmas.{names_none}
 use Rattle.mvt_attrs.proofs.PoolLemmas.{distinct_more, slice_get-front, last_there}
-
-pub uses_none : {A : Type 0} → (distinct : List A) (places marks : List ℕ) (used : List A) → distinct ≡ [] → places ≡ []
-    → marks ≡ [] → used ≡ [] → AreUses distinct places marks used []
-uses_none distinct places marks used no_distinct no_places no_marks no_used = record {
-  apart = subst AreDistinct (sym no_distinct) (λ i j d before within e. omega arith);
-  count = ap length no_places;
-  placed = λ i x at. cc;
-  room = ap length no_marks ∙ sym (ap length no_distinct);
-  marked = λ p i within at. let none = ap length no_distinct in absurd (omega arith);
-  once = subst AreDistinct (sym no_used) (λ i j d before within e. omega arith);
-  recorded = λ i x at. let none = ap (λ us. slice_get us i) no_used in cc;
-}
-
--- the first entries, each of which stands once
-module _ {A : Type 0} (distinct : List A) (places marks : List ℕ) (used before : List A) (uses : AreUses distinct places marks used before)
-    (none : distinct ≡ []) where
-  no_entries : (entries : List A) → ((i : ℕ) (x : A) → slice_get entries i ≡ Some x → (p : ℕ) × (slice_get distinct p ≡ Some x))
-      → entries ≡ []
-  no_entries [] known = refl
-  no_entries (x ∷ xs) known =
-      let (p, at) = known 0 x refl in
-      let nothing = ap (λ ds. slice_get ds p) none in
-      absurd cc
-
-  pub nothing_used : used ≡ []
-  nothing_used = no_entries used (λ i x at. (let (p, at_p, mark) = uses.recorded i x at in (p, at_p)))
-
-  pub uses_apart : (after entries : List A) (indices zeros : List ℕ) → after ≡ entries → AreDistinct entries
-      → AreIndices indices (length entries) → zeros ≡ replicate (length entries) 0 → AreUses after indices zeros used (before ++ entries)
-  uses_apart after entries indices zeros is apart are_indices are_zeros =
-      let no_before : before ≡ [] = no_entries before (λ i x at. (slice_index places i, uses.placed i x at)) in
-      let all : before ++ entries ≡ after = ap (λ bs. bs ++ entries) no_before ∙ sym is in
-      let size : length entries ≡ length after = ap length (sym is) in
-      subst (AreUses after indices zeros used) (sym all) (record {
-        apart = subst AreDistinct (sym is) apart;
-        count = are_indices.count ∙ size;
-        placed = λ i x at.
-            ap (slice_get after) (are_indices.here i (omega (arith, size, slice_get_within after i x at))) ∙ at;
-        room = ap length are_zeros ∙ length-replicate (length entries) 0 ∙ size;
-        marked = λ p i within at.
-            let zero_there : slice_index zeros p ≡ 0 =
-            ap (λ ns. slice_index ns p) are_zeros ∙ get_or-replicate (length entries) p 0 0 (omega (arith, size, within)) in
-            absurd (omega (arith, zero_there, at));
-        once = subst AreDistinct (sym nothing_used) (λ i j d low within e. omega arith);
-        recorded = λ i x at. let nothing = ap (λ us. slice_get us i) nothing_used in cc;
-      })
-
--- marks of the first entries
-pub marks_more : (marks longer : List ℕ) (n used mark : ℕ) → AreFirstMarks marks n used → (n < used → mark ≡ n + 1)
-    → (used ≤ n → mark ≡ 0) → longer ≡ marks ++ mark ∷ [] → AreFirstMarks longer (n + 1) used
-marks_more marks longer n used mark so_far is_used is_free grown =
-    subst (λ ms. AreFirstMarks ms (n + 1) used) (sym grown) (record {
-      count = omega (arith, length_push marks mark, so_far.count);
-      front = λ i within lt.
-          elim (cases_lt i n) [
-            | inl before ↦ (
-                get_or_append_left marks (mark ∷ []) 0 i (omega (arith, before, so_far.count)) ∙ so_far.front i before lt)
-            | inr le ↦ (
-                let last : i ≡ n = omega (arith, within, le) in
-                at_end i last ∙ is_used (omega (arith, last, lt)) ∙ omega (arith, last))
-          ];
-      rest = λ i le.
-          elim (cases_lt i n) [
-            | inl before ↦ (
-                get_or_append_left marks (mark ∷ []) 0 i (omega (arith, before, so_far.count)) ∙ so_far.rest i le)
-            | inr past ↦ (
-                elim (cases_lt n i) [
-                  | inl beyond ↦ get_or_past (marks ++ mark ∷ []) i 0 (omega (arith, beyond, length_push marks mark, so_far.count))
-                  | inr here ↦ (
-                      let last : i ≡ n = omega (arith, past, here) in
-                      at_end i last ∙ is_free (omega (arith, last, le)))
-                ])
-          ];
-    })
-  where
-    at_end : (i : ℕ) → i ≡ n → get_or (marks ++ mark ∷ []) i 0 ≡ mark
-    at_end i last =
-        ap (λ k. get_or (marks ++ mark ∷ []) k 0) (last ∙ sym so_far.count) ∙ get_or-append_seam marks mark [] 0
 
 -- ---- what is used
 
-pub used_added : {A : Type 0} → (u : UsedEntries A) → 0 < length u.places.items → used_of u ≡ u.used.items
+pub used_added : {A : Type 0} → (u : UsedEntries A) → u.front ≡ None → 0 < length u.places.items → used_of u ≡ u.used.items
 unfolding used_of
-used_added u some = by_places u.places.items some
+used_added u placed some = ap (λ f. used_in f u.places.items u.distinct u.used.items) placed ∙ by_places u.places.items some
   where
-    by_places : (places : List ℕ) → 0 < length places → used_in places u.distinct u.used.items ≡ u.used.items
+    by_places : (places : List ℕ) → 0 < length places → used_in None places u.distinct u.used.items ≡ u.used.items
     by_places [] none = absurd (omega arith)
     by_places (p ∷ places) some = refl
 
--- what is used hangs on these three lists alone
-pub still_used : {A : Type 0} → (old new : UsedEntries A) → new.places.items ≡ old.places.items → new.distinct ≡ old.distinct
-    → new.used.items ≡ old.used.items → used_of new ≡ used_of old
+-- what is used hangs on these alone
+pub still_used : {A : Type 0} → (old new : UsedEntries A) → new.front ≡ old.front → new.places.items ≡ old.places.items
+    → new.distinct ≡ old.distinct → new.used.items ≡ old.used.items → used_of new ≡ used_of old
 unfolding used_of
-still_used old new places distinct used =
-    ap (λ ps. used_in ps new.distinct new.used.items) places
-    ∙ ap₂ (λ ds us. used_in old.places.items ds us) distinct used
+still_used old new front places distinct used =
+    ap₂ (λ f ps. used_in f ps new.distinct new.used.items) front places
+    ∙ ap₂ (λ ds us. used_in old.front old.places.items ds us) distinct used
 
-pub all_used : {A : Type 0} → (u : UsedEntries A) → u.places.items ≡ [] → used_of u ≡ u.distinct
+pub all_used : {A : Type 0} → (u : UsedEntries A) → u.front ≡ None → u.places.items ≡ [] → used_of u ≡ u.distinct
 unfolding used_of
-all_used u none = ap (λ ps. used_in ps u.distinct u.used.items) none
+all_used u placed none = ap₂ (λ f ps. used_in f ps u.distinct u.used.items) placed none
+
+pub used_counted : {A : Type 0} → (u : UsedEntries A) (count : ℕ) → u.front ≡ Some count → used_of u ≡ take count u.distinct
+unfolding used_of
+used_counted u count counted = ap (λ f. used_in f u.places.items u.distinct u.used.items) counted
+
+-- entries that are known by their places, or are counted
+pub placed_of : {A : Type 0} → (u : UsedEntries A) (entries : List A) → u.front ≡ None → AreUsesOf u entries
+    → UsesAre u.distinct None u.places.items u.marks.items u.used.items entries
+placed_of u entries placed uses = subst (λ f. UsesAre u.distinct f u.places.items u.marks.items u.used.items entries) placed uses
+
+pub placed_again : {A : Type 0} → (distinct : List A) (front : Option ℕ) (places marks : List ℕ) (used entries : List A) → front ≡ None
+    → UsesAre distinct None places marks used entries → UsesAre distinct front places marks used entries
+placed_again distinct front places marks used entries placed uses = subst (λ f. UsesAre distinct f places marks used entries) (sym placed) uses
+
+pub placed_count : {A : Type 0} → (u : UsedEntries A) (entries : List A) → u.front ≡ None → AreUsesOf u entries
+    → length u.places.items ≡ length entries
+placed_count {A = A} u entries placed uses = by_entries entries (placed_of u entries placed uses)
+  where
+    by_entries : (es : List A) → UsesAre u.distinct None u.places.items u.marks.items u.used.items es
+        → length u.places.items ≡ length es
+    by_entries [] are = ap length are.no_places
+    by_entries (x ∷ es) are = are.count
+
+pub counted_of : {A : Type 0} → (u : UsedEntries A) (entries : List A) (count : ℕ) → u.front ≡ Some count → AreUsesOf u entries
+    → AreCounted u.distinct entries count
+counted_of {A = A} u entries count counted uses =
+    by_entries entries (subst (λ f. UsesAre u.distinct f u.places.items u.marks.items u.used.items entries) counted uses)
+  where
+    by_entries : (es : List A) → UsesAre u.distinct (Some count) u.places.items u.marks.items u.used.items es
+        → AreCounted u.distinct es count
+    by_entries [] uses = absurd uses
+    by_entries (x ∷ es) uses = uses
+
+-- no entry was added
+pub none_added : {A : Type 0} → (u : UsedEntries A) → AreUsesOf u []
+    → (u.front ≡ None) × AreAllUsed u.distinct u.places.items u.marks.items u.used.items
+none_added u uses = by_front u.front refl uses
+  where
+    by_front : (f : Option ℕ) → u.front ≡ f → UsesAre u.distinct f u.places.items u.marks.items u.used.items []
+        → (u.front ≡ None) × AreAllUsed u.distinct u.places.items u.marks.items u.used.items
+    by_front None placed are = (placed, are)
+    by_front (Some count) counted are = absurd are
 
 pub used_once : {A : Type 0} → (u : UsedEntries A) (entries : List A) → AreUsesOf u entries → AreDistinct (used_of u)
-used_once u [] uses = subst AreDistinct (sym (all_used u uses.no_places)) uses.apart
-used_once u (x ∷ entries) uses = subst AreDistinct (sym (used_added u (let count = uses.count in omega arith))) uses.once
+used_once {A = A} u entries uses = by_front u.front refl
+  where
+    by_placed : (es : List A) → u.front ≡ None → UsesAre u.distinct None u.places.items u.marks.items u.used.items es
+        → AreDistinct (used_of u)
+    by_placed [] placed uses = subst AreDistinct (sym (all_used u placed uses.no_places)) uses.apart
+    by_placed (x ∷ es) placed uses =
+        subst AreDistinct (sym (used_added u placed (let count = uses.count in omega arith))) uses.once
+
+    by_front : (f : Option ℕ) → u.front ≡ f → AreDistinct (used_of u)
+    by_front None placed = by_placed entries placed (placed_of u entries placed uses)
+    by_front (Some count) counted =
+        let are = counted_of u entries count counted uses in
+        subst AreDistinct (sym (used_counted u count counted)) (distinct_front u.distinct count are.within are.apart)
 
 -- with an entry at a place there are entries
 pub some_added : {A : Type 0} → (distinct : List A) (places marks : List ℕ) (used entries : List A) (i : ℕ) (x : A)
-    → UsesAre distinct places marks used entries → slice_get entries i ≡ Some x
+    → UsesAre distinct None places marks used entries → slice_get entries i ≡ Some x
     → AreUses distinct places marks used entries × (0 < length places)
 some_added distinct places marks used [] i x uses at = cc
 some_added distinct places marks used (y ∷ entries) i x uses at = (uses, let count = uses.count in omega arith)
 
 pub still_uses : {A : Type 0} → (distinct : List A) (places marks new_marks : List ℕ) (used longer entries : List A) (i : ℕ)
     → i < length places
-    → UsesAre distinct places marks used entries
+    → UsesAre distinct None places marks used entries
     → (AreUses distinct places marks used entries → AreUses distinct places new_marks longer entries)
-    → UsesAre distinct places new_marks longer entries
+    → UsesAre distinct None places new_marks longer entries
 still_uses distinct places marks new_marks used longer [] i within uses more = absurd (let none = ap length uses.no_places in omega arith)
 still_uses distinct places marks new_marks used longer (x ∷ entries) i within uses more = more uses
 
 -- no entry was added: what attributes brought is used by its marks
-pub brought : {A : Type 0} → (u : UsedEntries A) (entries : List A) (marks : List ℕ) (used : List A) → AreUsesOf u entries
+pub brought : {A : Type 0} → (u : UsedEntries A) (entries : List A) (marks : List ℕ) (used : List A)
+    → UsesAre u.distinct None u.places.items u.marks.items u.used.items entries
     → u.places.items ≡ [] → AreFirstMarks marks (length u.distinct) (length u.distinct) → used ≡ u.distinct
     → AreUses u.distinct u.places.items marks used entries
 brought u [] marks used uses none are_marks is =
@@ -166,55 +142,46 @@ brought u [] marks used uses none are_marks is =
 brought u (x ∷ entries) marks used uses none are_marks is =
     let count = uses.count in let size = ap length none in absurd (omega arith)
 
--- entries were added
-pub added_before : {A : Type 0} → (u : UsedEntries A) (entries : List A) → AreUsesOf u entries → 0 < length u.places.items
-    → AreUses u.distinct u.places.items u.marks.items u.used.items entries
-added_before u [] uses some = let size = ap length uses.no_places in absurd (omega arith)
-added_before u (x ∷ entries) uses some = uses
-
--- an entry can be added where entries were added, and where nothing is used
-pub to_add : {A : Type 0} → (distinct : List A) (places marks : List ℕ) (used entries : List A) → UsesAre distinct places marks used entries
-    → distinct ≡ [] → AreUses distinct places marks used entries
-to_add distinct places marks used [] uses none = uses_none distinct places marks used none uses.no_places uses.no_marks uses.no_used
-to_add distinct places marks used (x ∷ entries) uses none = uses
-
 pub is_added : {A : Type 0} → (distinct : List A) (places marks : List ℕ) (used entries : List A) (x : A)
-    → AreUses distinct places marks used (entries ++ x ∷ []) → UsesAre distinct places marks used (entries ++ x ∷ [])
+    → AreUses distinct places marks used (entries ++ x ∷ []) → UsesAre distinct None places marks used (entries ++ x ∷ [])
 is_added distinct places marks used [] x uses = uses
 is_added distinct places marks used (y ∷ entries) x uses = uses
 
--- entries that are added at once, where nothing is used
+-- the first entries, which stand once each
+module _ {A : Type 0} (u new : UsedEntries A) (before entries : List A) (placed : u.front ≡ None) (none : u.distinct ≡ [])
+    (uses : AreUsesOf u before) where
+  none_before : before ≡ []
+  none_before = by_entries before (placed_of u before placed uses)
+    where
+      by_entries : (es : List A) → UsesAre u.distinct None u.places.items u.marks.items u.used.items es → es ≡ []
+      by_entries [] uses = refl
+      by_entries (x ∷ es) uses =
+          let within = slice_get_within u.distinct _ x (uses.placed 0 x refl) in
+          absurd (omega (arith, within, ap length none))
 
-pub at_once : {A : Type 0} → (distinct : List A) (places marks : List ℕ) (used entries : List A)
-    → AreUses distinct places marks used entries
-    → length distinct ≡ length places → (entries ≡ [] → used ≡ []) → UsesAre distinct places marks used entries
-at_once distinct places marks used [] uses size unused = record {
-  apart = uses.apart;
-  no_places = nil_from_length places uses.count;
-  no_marks = nil_from_length marks (uses.room ∙ size ∙ uses.count);
-  no_used = unused refl;
-}
-at_once distinct places marks used (x ∷ entries) uses size unused = uses
-
-none_in : {A : Type 0} → (places : List ℕ) (distinct used : List A) → length distinct ≡ length places → used ≡ []
-    → used_in places distinct used ≡ []
-none_in [] distinct used size unused = nil_from_length distinct size
-none_in (p ∷ places) distinct used size unused = unused
-
-pub none_used : {A : Type 0} → (u : UsedEntries A) → length u.distinct ≡ length u.places.items → u.used.items ≡ [] → used_of u ≡ []
-unfolding used_of
-none_used u size unused = none_in u.places.items u.distinct u.used.items size unused
+  pub are_counted : new.front ≡ Some 0 → new.distinct ≡ entries → AreDistinct entries → 0 < length entries
+      → AreUsesOf new (before ++ entries)
+  are_counted counted is apart some =
+      subst (λ f. UsesAre new.distinct f new.places.items new.marks.items new.used.items (before ++ entries)) (sym counted)
+      (subst (UsesAre new.distinct (Some 0) new.places.items new.marks.items new.used.items)
+      (sym (ap (λ bs. bs ++ entries) none_before)) (by_entries entries is apart some))
+    where
+      by_entries : (es : List A) → new.distinct ≡ es → AreDistinct es → 0 < length es
+          → UsesAre new.distinct (Some 0) new.places.items new.marks.items new.used.items es
+      by_entries [] is apart some = absurd (omega arith)
+      by_entries (x ∷ es) is apart some = record { apart = subst AreDistinct (sym is) apart; same = is; within = omega arith }
 
 -- with one place more the list of what is used counts
-pub used_kept : {A : Type 0} → (old new : UsedEntries A) (place : ℕ) → (old.places.items ≡ [] → old.used.items ≡ old.distinct)
+pub used_kept : {A : Type 0} → (old new : UsedEntries A) (place : ℕ) → old.front ≡ None → new.front ≡ None
+    → (old.places.items ≡ [] → old.used.items ≡ old.distinct)
     → new.places.items ≡ old.places.items ++ place ∷ [] → new.used.items ≡ old.used.items → used_of new ≡ used_of old
-used_kept old new place kept pushed same =
-    used_added new (omega (arith, ap length pushed, length_push old.places.items place)) ∙ same
+used_kept old new place placed still_placed kept pushed same =
+    used_added new still_placed (omega (arith, ap length pushed, length_push old.places.items place)) ∙ same
     ∙ before old.places.items refl
   where
     before : (ps : List ℕ) → ps ≡ old.places.items → old.used.items ≡ used_of old
-    before [] none = kept (sym none) ∙ sym (all_used old (sym none))
-    before (p ∷ ps) some = sym (used_added old (omega (arith, ap length some)))
+    before [] none = kept (sym none) ∙ sym (all_used old placed (sym none))
+    before (p ∷ ps) some = sym (used_added old placed (omega (arith, ap length some)))
 
 -- one of two entries at the places of a longer list
 push_cases : {A : Type 0} → (xs : List A) (x y : A) (i : ℕ) → slice_get (xs ++ x ∷ []) i ≡ Some y
@@ -227,33 +194,6 @@ push_cases (w ∷ xs) x y (suc i) at =
       | inl front ↦ inl front
       | inr last ↦ inr (ap suc last.0, last.1)
     ]
-
--- an entry of a list without repeats stands at one place
-pub one_place : {A : Type 0} → (xs : List A) (p q : ℕ) (x : A) → AreDistinct xs → slice_get xs p ≡ Some x → slice_get xs q ≡ Some x → p ≡ q
-one_place xs p q x apart at_p at_q =
-    let here = get_or_from_slice_get xs p x x at_p ∙ sym (get_or_from_slice_get xs q x x at_q) in
-    let in_p = slice_get_within xs p x at_p in
-    let in_q = slice_get_within xs q x at_q in
-    ⊎_elim (λ (e : p ≡ q). e)
-    (λ (ne : p ≡ q → ⊥). absurd (two here in_p in_q ne))
-    (cases_eq p q)
-  where
-    two : get_or xs p x ≡ get_or xs q x → p < length xs → q < length xs → (p ≡ q → ⊥) → ⊥
-    two e in_p in_q ne = by (less p q)
-      where
-        less : (a b : ℕ) → (a < b) ⊎ (b ≤ a)
-        less zero zero = inr (omega arith)
-        less zero (suc b) = inl (omega arith)
-        less (suc a) zero = inr (omega arith)
-        less (suc a) (suc b) =
-            elim (less a b) [
-              | inl lt ↦ inl (omega arith)
-              | inr le ↦ inr (omega arith)
-            ]
-
-        by : (p < q) ⊎ (q ≤ p) → ⊥
-        by (inl lt) = apart p q x lt in_q e
-        by (inr le) = apart q p x (omega arith) in_p (sym e)
 
 -- ---- one entry more
 
@@ -509,12 +449,6 @@ module _ {A : Type 0} (same : A → A → Bool) (decides : (x y : A) → Decides
       ]
 
 -- tags so far, of attributes whose entries are used: those that were used before, and theirs
-pub record TagsSoFar (done : List Attribute) (held_keys keys : List (List ℕ)) (held_values values : List Value) (tags : List ℕ) : Type 0
-  where
-    pub keys_are : keys ≡ key_pool held_keys done
-    pub values_are : values ≡ value_pool held_values done
-    pub names : Names keys values tags done
-
 pub tags_start : (keys : List (List ℕ)) (values : List Value) → AreDistinct keys → AreDistinct values
     → TagsSoFar [] keys keys values values []
 tags_start keys values distinct_keys distinct_values = record {
@@ -554,18 +488,6 @@ tags_are_places attributes held_keys keys held_values values tags all =
     ∙ ap₂ (λ ks vs. tags_in ks vs attributes) (append-nil keys) (append-nil values)
 
 -- ---- a walk over tags
-
--- so many attributes are used, and these tags name those to come
-pub record UsedSoFar (keys : List (List ℕ)) (values : List Value) (attributes : List Attribute) (rest : List ℕ) (old now : LayerEntries)
-    (before after : List ℕ) : Type 0 where
-  pub done : List Attribute
-  pub to_come : List Attribute
-  pub parts : attributes ≡ done ++ to_come
-  pub named : AreRelated (NamesOne keys values) (pairs_of rest) to_come
-  pub uses : HasUses now keys values
-  pub tags : List ℕ
-  pub out : after ≡ before ++ tags
-  pub so_far : TagsSoFar done (used_of old.keys) (used_of now.keys) (used_of old.values) (used_of now.values) tags
 
 module _ (keys : List (List ℕ)) (values : List Value) (attributes : List Attribute) (old : LayerEntries) (before : List ℕ) where
   pub used_start : (tags : List ℕ) → HasUses old keys values → Names keys values tags attributes
@@ -647,8 +569,20 @@ entries_are distinct (p ∷ places) (x ∷ entries) size placed =
     ∙ ap (λ o. option_to_list o ++ entries_at distinct places) (sym (placed 0 x refl))
 
 pub entries_told : {A : Type 0} → (uses : UsedEntries A) (entries : List A) → AreUsesOf uses entries → entries ≡ entries_of uses
-entries_told uses [] are = sym (ap (entries_at uses.distinct) are.no_places)
-entries_told uses (x ∷ entries) are = entries_are uses.distinct uses.places.items (x ∷ entries) are.count are.placed
+entries_told {A = A} uses entries are = by_front uses.front refl
+  where
+    by_placed : (es : List A) → UsesAre uses.distinct None uses.places.items uses.marks.items uses.used.items es
+        → es ≡ entries_at uses.distinct uses.places.items
+    by_placed [] are = sym (ap (entries_at uses.distinct) are.no_places)
+    by_placed (x ∷ es) are = entries_are uses.distinct uses.places.items (x ∷ es) are.count are.placed
+
+    by_front : (f : Option ℕ) → uses.front ≡ f → entries ≡ entries_of uses
+    by_front None placed =
+        by_placed entries (placed_of uses entries placed are)
+        ∙ ap (λ f. entries_in uses.distinct f uses.places.items) (sym placed)
+    by_front (Some count) counted =
+        sym (counted_of uses entries count counted are).same
+        ∙ ap (λ f. entries_in uses.distinct f uses.places.items) (sym counted)
 
 pub keys_told : (uses : UsedEntries (List ℕ)) (entries : List (List ℕ)) → AreUsesOf uses entries → entries ≡ entries_of uses
 keys_told uses entries are = entries_told uses entries are

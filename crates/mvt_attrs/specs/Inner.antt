@@ -6,3 +6,4 @@ pub mod Found
 pub mod Marking
 pub mod Choosing
 pub mod Places
+pub mod UsedTags

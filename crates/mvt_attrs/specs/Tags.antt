@@ -4,6 +4,10 @@ use Rattle.std.specs.List.{list_any}
 use Rattle.mvt_attrs.specs.Values.{Value}
 use Rattle.mvt_attrs.specs.declared.value.Attribute.{Attribute}
 
+-- a pair of indices names an attribute
+abbrev pub NamesOne : List (List ℕ) → List Value → ℕ × ℕ → Attribute → Type 0
+NamesOne keys values pair a = (slice_get keys pair.0 ≡ Some a.key) × (slice_get values pair.1 ≡ Some a.value)
+
 -- the tags name these attributes, pair by pair and in order
 pub record Names (keys : List (List ℕ)) (values : List Value) (tags : List ℕ) (attributes : List Attribute) : Type 0 where
   pub twice : length tags ≡ 2 * length attributes

@@ -32,7 +32,7 @@ impl Entry for TextRef<'_> {
 
     #[inline(always)]
     fn copied(&self, _: Global) -> Result<Self, AllocError> {
-        Ok(TextRef::of(self.as_str()))
+        Ok(self.again())
     }
 
     #[inline(always)]

@@ -13,7 +13,8 @@ ghost use Rattle.mvt_attrs.specs.Tags.{Names, Resolved};
 ghost use Rattle.mvt_attrs.specs.TagRules.{count_rules, pair_rules, tag_rules, tag_fault};
 ghost use Rattle.mvt_attrs.specs.TagPlaces.{tags_in, IsIn};
 ghost use Rattle.mvt_attrs.specs.declared.used_entries.UsedEntries.{UsedEntries};
-ghost use Rattle.mvt_attrs.specs.Using.{AreUsesOf, entries_of};
+ghost use Rattle.mvt_attrs.specs.declared.used_entries.LayerEntries.{LayerEntries};
+ghost use Rattle.mvt_attrs.specs.Using.{AreSameUses, AreUsesOf, IsUsedBy, entries_of};
 
 /// Tags without a fault are resolved to just one list of attributes, and resolved tags have no
 /// fault.
@@ -128,4 +129,10 @@ pub fn uses_tell_entries()
         → AreUsesOf uses entries → entries ≡ entries_of uses }
     ensures values { (uses : UsedEntries Value) (entries : List Value)
         → AreUsesOf uses entries → entries ≡ entries_of uses }
+{}
+
+/// Where the same entries are used as before, attributes use the same more.
+pub fn uses_by_what_is_used()
+    ensures { (attributes : List Attribute) (old same new : LayerEntries) →
+        AreSameUses old same → IsUsedBy attributes same new → IsUsedBy attributes old new }
 {}

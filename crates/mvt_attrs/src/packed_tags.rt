@@ -1,5 +1,5 @@
 //! Tags judged where they stand packed in bytes, without a list of them (4.4).
-ghost use Rattle.std.specs.Prelude.{◌≡◌, ◌<◌, ◌+◌, ◌++◌, ◌∷◌, [], ℕ, List, length, IfOk, IfSome, IsTrue};
+ghost use Rattle.std.specs.Prelude.{◌≡◌, ◌<◌, ◌+◌, ◌++◌, ◌∷◌, [], ℕ, List, length, IfOk, IfSome, IsTrue, false};
 ghost use Rattle.mvt_attrs.specs.Inner.Fronts.{IsPairFront};
 ghost use Rattle.mvt_attrs.specs.Inner.Marking.{IsGrouped, AreBelow};
 ghost use Rattle.mvt_attrs.specs.FirstUses.{lent};
@@ -17,15 +17,19 @@ pub trait TagVisitor: Drop {
     // Since it was in the first state it was told these tags.
     ghost has_tags: { Self → List ℕ → Self → Type 0 };
 
+    // It may not go on.
+    ghost may_stop: { Type 0 };
+
     /// Takes the next pair, and answers whether it goes on.
     ///
     /// # Errors
     ///
     /// When memory runs out.
     fn visit_pair(&mut self, key: u32, value: u32) -> Result<bool, AllocError>
-        ensures { (start : Self) (tags : List ℕ) → has_tags start tags self.old
+        ensures told { (start : Self) (tags : List ℕ) → has_tags start tags self.old
             → IfOk result (λ goes_on. IsTrue goes_on
-            → has_tags start (tags ++ key ∷ value ∷ []) self.new) };
+            → has_tags start (tags ++ key ∷ value ∷ []) self.new) }
+        ensures stops { IfOk result (λ goes_on. goes_on ≡ false → may_stop) };
 
     ghost begins: { (start : Self) → has_tags start [] start };
 }
@@ -36,6 +40,8 @@ pub struct NoTags;
 
 impl TagVisitor for NoTags {
     ghost has_tags = { λ _ _ _. Unit {0} };
+
+    ghost may_stop = { ⊥ };
 
     ghost begins = { λ _. tt };
 
@@ -51,6 +57,8 @@ impl TagVisitor for Vec<u32> {
     ghost use Rattle.std.proofs.Common.{append-nil, sym};
 
     ghost has_tags = { λ start tags now. now.items ≡ start.items ++ tags };
+
+    ghost may_stop = { ⊥ };
 
     ghost begins = { λ start. sym (append-nil start.items) };
 
@@ -88,7 +96,7 @@ pub fn judge_packed<V: TagVisitor>(
     bytes: &[u8],
 ) -> Result<PackedTags, AllocError>
     ensures found { IfOk result
-        (AreFound V.has_tags visitor.old visitor.new bytes.now keys.old values) }
+        (AreFound V.may_stop V.has_tags visitor.old visitor.new bytes.now keys.old values) }
     ensures same { keys.new ≡ keys.old }
 {
     if bytes.is_empty() {
@@ -132,7 +140,7 @@ fn judge_one<V: TagVisitor>(
 ) -> Result<PackedTags, AllocError>
     requires { pair.now.after.now ≡ [] }
     ensures { (bytes : List ℕ) → IsPairFront bytes pair.now → IfOk result
-        (AreFound V.has_tags visitor.old visitor.new bytes (lent texts.now) values) }
+        (AreFound V.may_stop V.has_tags visitor.old visitor.new bytes (lent texts.now) values) }
 {
     match judge_pair(texts, values, &[pair.key, pair.value]) {
         Ok(()) => {}
@@ -161,7 +169,7 @@ fn judge_each<V: TagVisitor>(
     requires room { length named_by.old ≡ length (lent texts.now) }
     requires fresh { AreBelow named_by.old feature }
     ensures found { IfOk result
-        (AreFound V.has_tags visitor.old visitor.new bytes.now (lent texts.now) values) }
+        (AreFound V.may_stop V.has_tags visitor.old visitor.new bytes.now (lent texts.now) values) }
     ensures below { AreBelow named_by.new (feature + 1) }
 {
     let count = count_of(texts);

@@ -37,6 +37,14 @@ impl<'a> TextRef<'a> {
     {
         self.text
     }
+
+    /// This text once more.
+    #[inline(always)]
+    pub fn again(&self) -> TextRef<'a>
+        ensures { result ≡ self.now }
+    {
+        TextRef::of(self.as_str())
+    }
 }
 
 impl PartialEq for TextRef<'_> {
@@ -50,7 +58,7 @@ impl PartialEq for TextRef<'_> {
 
     #[inline(always)]
     fn eq(&self, other: &Self) -> bool {
-        self.text == other.text
+        self.as_str() == other.as_str()
     }
 }
 
@@ -94,7 +102,7 @@ impl Ord for TextRef<'_> {
     ghost matches_eq = { Prim.search (comparing, rules) };
 
     fn cmp(&self, other: &Self) -> Ordering {
-        self.text.cmp(other.text)
+        self.as_str().cmp(other.as_str())
     }
 }
 
@@ -108,7 +116,7 @@ impl Hash for TextRef<'_> {
     ghost respects_eq = { Prim.search (hashing, rules) };
 
     fn hash<H: Hasher>(&self, state: &mut H) {
-        self.text.hash(state);
+        self.as_str().hash(state);
     }
 }
 

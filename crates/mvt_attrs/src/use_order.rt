@@ -20,6 +20,8 @@ impl TagVisitor for UseOrder {
     ghost has_tags = { λ start tags now.
         AreInOrder (start.keys, start.values) tags (now.keys, now.values) };
 
+    ghost may_stop = { Unit {0} };
+
     ghost begins = { λ _. refl };
 
     #[inline(always)]

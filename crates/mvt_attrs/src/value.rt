@@ -27,6 +27,21 @@ pub type Value = ValueOf<Text>;
 /// A value whose text is lent. In contracts it is the same value.
 pub type ValueRef<'a> = ValueOf<TextRef<'a>>;
 
+/// The value whose text is made of another's, and whose number is the other's.
+macro_rules! with_text {
+    ($value:expr, $text:ident => $made:expr) => {
+        match $value {
+            ValueOf::Text($text) => ValueOf::Text($made),
+            ValueOf::Float(bits) => ValueOf::Float(*bits),
+            ValueOf::Double(bits) => ValueOf::Double(*bits),
+            ValueOf::Int(number) => ValueOf::Int(*number),
+            ValueOf::Uint(number) => ValueOf::Uint(*number),
+            ValueOf::Sint(number) => ValueOf::Sint(*number),
+            ValueOf::Bool(truth) => ValueOf::Bool(*truth),
+        }
+    };
+}
+
 impl ValueOf<Text> {
     /// An equal value, which shares a text's memory.
     ///
@@ -38,10 +53,7 @@ impl ValueOf<Text> {
         ensures same { IfOk result (λ copy. copy ≡ self.now) }
         ensures in_place { LiesInPlace self.now → IsOk result }
     {
-        match self {
-            ValueOf::Text(text) => Ok(ValueOf::Text(text.copy(alloc)?)),
-            number => number.lent().kept(alloc),
-        }
+        Ok(with_text!(self, text => text.copy(alloc)?))
     }
 
     /// This value, lent.
@@ -49,15 +61,7 @@ impl ValueOf<Text> {
     pub fn lent(&self) -> ValueRef<'_>
         ensures { result ≡ self.now }
     {
-        match self {
-            ValueOf::Text(text) => ValueOf::Text(TextRef::of(text.as_str())),
-            ValueOf::Float(bits) => ValueOf::Float(*bits),
-            ValueOf::Double(bits) => ValueOf::Double(*bits),
-            ValueOf::Int(number) => ValueOf::Int(*number),
-            ValueOf::Uint(number) => ValueOf::Uint(*number),
-            ValueOf::Sint(number) => ValueOf::Sint(*number),
-            ValueOf::Bool(truth) => ValueOf::Bool(*truth),
-        }
+        with_text!(self, text => TextRef::of(text.as_str()))
     }
 }
 
@@ -67,15 +71,7 @@ impl<'a> ValueOf<TextRef<'a>> {
     pub fn again(&self) -> ValueRef<'a>
         ensures { result ≡ self.now }
     {
-        match self {
-            ValueOf::Text(text) => ValueOf::Text(TextRef::of(text.as_str())),
-            ValueOf::Float(bits) => ValueOf::Float(*bits),
-            ValueOf::Double(bits) => ValueOf::Double(*bits),
-            ValueOf::Int(number) => ValueOf::Int(*number),
-            ValueOf::Uint(number) => ValueOf::Uint(*number),
-            ValueOf::Sint(number) => ValueOf::Sint(*number),
-            ValueOf::Bool(truth) => ValueOf::Bool(*truth),
-        }
+        with_text!(self, text => text.again())
     }
 
     /// The value that keeps a copy of this text.
@@ -88,15 +84,7 @@ impl<'a> ValueOf<TextRef<'a>> {
         ensures same { IfOk result (λ value. value ≡ self.now) }
         ensures in_place { LiesInPlace self.now → IsOk result }
     {
-        match self {
-            ValueOf::Text(text) => Ok(ValueOf::Text(Text::from_str(alloc, text.as_str())?)),
-            ValueOf::Float(bits) => Ok(ValueOf::Float(*bits)),
-            ValueOf::Double(bits) => Ok(ValueOf::Double(*bits)),
-            ValueOf::Int(number) => Ok(ValueOf::Int(*number)),
-            ValueOf::Uint(number) => Ok(ValueOf::Uint(*number)),
-            ValueOf::Sint(number) => Ok(ValueOf::Sint(*number)),
-            ValueOf::Bool(truth) => Ok(ValueOf::Bool(*truth)),
-        }
+        Ok(with_text!(self, text => Text::from_str(alloc, text.as_str())?))
     }
 }
 

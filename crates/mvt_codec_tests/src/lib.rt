@@ -3,20 +3,8 @@
 #![tactic(auto)]
 
 #[cfg(test)]
-mod attrs;
+mod codec;
 #[cfg(test)]
 mod expect;
 #[cfg(test)]
-mod geometry;
-#[cfg(test)]
-mod io;
-#[cfg(test)]
-mod packed;
-#[cfg(test)]
-mod packed_tags;
-#[cfg(test)]
-mod pools;
-#[cfg(test)]
-mod uses;
-#[cfg(test)]
-mod wire;
+mod slow;

@@ -2,7 +2,6 @@
 use Rattle.std.proofs.Common.{◌≡◌, ◌≢◌, ℕ, ◌==◌, ◌^◌, ◌<◌, ◌≤◌, Bool, true, false, List, [], ◌∷◌, ◌++◌, length, map, drop, Bor, Some, None, refl, sym, ap, ap₂, subst, ◌∙◌, append_assoc, append-nil, lit<, lit≤, if◌then◌else◌}
 use Rattle.std.specs.Prelude.{IfSome}
 use Rattle.std.proofs.lemmas.Bool.{eqb-true}
-use Rattle.std.proofs.Math.ListN.{drop_of_length-le}
 use Rattle.mvt_base.proofs.ListLemmas.{all_joined}
 use Rattle.mvt_geometry.specs.declared.shape.Kind.{Kind}
 use Rattle.mvt_geometry.specs.declared.shape.Kind.TheVariants as kinds
@@ -13,7 +12,7 @@ use Rattle.mvt_feature.specs.declared.canonical_feature.Parts.{Parts}
 use Rattle.mvt_feature.specs.declared.numbers.feature.TheConstants.{ID, TAGS, TYPE, GEOMETRY}
 use Rattle.mvt_feature.specs.Canonical.{plain, id_fields, type_fields, type_number}
 use Rattle.mvt_feature.specs.Copying.{packed_tags}
-use Rattle.mvt_feature.specs.Ordering.{AreMet, IsInAnyOrder, met_fields, met_integers, met_type}
+use Rattle.mvt_feature.specs.Ordering.{AreMet, met_fields, met_integers, met_type}
 use Rattle.mvt_feature.specs.Selection.{AreAlike, contents_at}
 use Rattle.mvt_feature.proofs.CanonicalLemmas.{only_plain}
 
@@ -97,16 +96,6 @@ type_small kinds.Point = lit< tt
 type_small kinds.LineString = lit< tt
 type_small kinds.Polygon = lit< tt
 
--- nothing is met in front
-pub met_none : (payload : List ℕ) (p : Parts) → met_fields p ≡ [] → p.id ≡ None → AreMet payload 0 p
-met_none payload p none no_id = record {
-  fields = [];
-  fit = tt;
-  stand = refl;
-  alike = λ k. ap (contents_at k) (sym none);
-  id = rw no_id tt;
-}
-
 -- one more field
 met_more : (payload : List ℕ) (at end : ℕ) (before after : Parts) (field : Plain) → AreMet payload at before → IsFit field
     → drop at payload ≡ short_field field.number field.content ++ drop end payload
@@ -184,18 +173,6 @@ module _ (payload : List ℕ) (at end : ℕ) (p : Parts) (met : AreMet payload a
       ∙ ap (contents_at k) (append_assoc (id_fields p.id) (tags ++ type) (field ∷ [])
       ∙ ap (λ l. id_fields p.id ++ l) (append_assoc tags type (field ∷ [])))
       ∙ ap (λ is. contents_at k (id_fields p.id ++ (tags ++ (type ++ is)))) (sym (integers_there d.now some))) (λ id. id)
-
-  -- all was met
-  pub met_all : length payload ≤ at → p.kind ≢ kinds.Unknown → p.integers.now ≢ [] → IsInAnyOrder payload p
-  met_all whole known some = record {
-    fields = met.fields;
-    fit = met.fit;
-    is = met.stand ∙ ap (λ r. spelled met.fields ++ r) (drop_of_length-le payload whole) ∙ append-nil (spelled met.fields);
-    alike = λ k.
-        met.alike k
-        ∙ ap₂ (λ ts is. contents_at k (id_fields p.id ++ (tags ++ (ts ++ is)))) (type_there p.kind known)
-        (integers_there p.integers.now some);
-  }
 
 -- fields that are alike have the same fields of each number
 only_as_contents : (k : ℕ) (ps : List Plain) → only_plain k ps ≡ map (plain k) (contents_at k ps)

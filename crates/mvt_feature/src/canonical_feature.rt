@@ -9,7 +9,7 @@ ghost use Rattle.mvt_geometry.specs.Visiting.{HasDrawn, Part};
 ghost use Rattle.mvt_wire.specs.Field.{content_of, varint, fixed32, fixed64};
 ghost use Rattle.mvt_wire.specs.Packed.{ArePacked};
 ghost use Rattle.mvt_wire.specs.Spelling.{short_numbers, spelled};
-ghost use Rattle.mvt_feature.specs.declared.canonical_feature.NotCanonical.TheVariants as causes;
+ghost use Rattle.mvt_feature.specs.declared.canonical_feature.Unsure.TheVariants as causes;
 ghost use Rattle.mvt_feature.specs.Canonical.{plain, field_of_value, id_fields, type_fields};
 ghost use Rattle.mvt_feature.specs.Ordering.{IsOfPartsAfter};
 ghost use Rattle.mvt_feature.specs.Copying.{IsCanonicalValue, IsCanonicalAfter, packed_tags, parts_fields};
@@ -24,25 +24,25 @@ use mvt_wire::{Payload, are_short, short_bytes_at, short_field_at, short_number_
 use std::alloc::{AllocError, Global};
 use std::str;
 
-/// Why a payload isn't known to be canonical.
+/// Why it isn't known whether a payload is canonical.
 #[derive(Clone, Copy, Debug, PartialEq, Eq)]
-pub enum NotCanonical {
+pub enum Unsure {
     /// Memory runs out.
     Memory,
     /// A rule seems to be broken; what judges the payload tells.
-    Broken,
+    SeemsBroken,
     /// It stands in another way, or isn't looked at further.
-    Other,
+    Undecided,
 }
 
-impl From<AllocError> for NotCanonical {
+impl From<AllocError> for Unsure {
     ghost use Rattle.std.specs.Prelude.{◌≡◌};
-    ghost use Rattle.mvt_feature.specs.declared.canonical_feature.NotCanonical.TheVariants as causes;
+    ghost use Rattle.mvt_feature.specs.declared.canonical_feature.Unsure.TheVariants as causes;
 
     ghost from_gives = { λ e r. r ≡ causes.Memory };
 
     fn from(_: AllocError) -> Self {
-        NotCanonical::Memory
+        Unsure::Memory
     }
 }
 
@@ -227,7 +227,7 @@ pub fn judge_canonical<V: GeometryVisitor>(
     keys: &mut LayerKeys<'_>,
     values: usize,
     used: (usize, usize),
-) -> Result<CanonicalFeature, NotCanonical>
+) -> Result<CanonicalFeature, Unsure>
     ensures found { IfOk result (λ known. (held : List AValue) → length held ≡ values
         → IsCanonicalAfter payload.now keys.old held used
         (HasDrawn V.has_parts V.has_integers visitor.old visitor.new) known) }
@@ -237,7 +237,7 @@ pub fn judge_canonical<V: GeometryVisitor>(
 {
     match parts_of(payload) {
         Some(parts) => judge_parts(alloc, visitor, &parts, keys, values, used),
-        None => Err(NotCanonical::Other),
+        None => Err(Unsure::Undecided),
     }
 }
 
@@ -249,7 +249,7 @@ fn judge_parts<V: GeometryVisitor>(
     keys: &mut LayerKeys<'_>,
     values: usize,
     used: (usize, usize),
-) -> Result<CanonicalFeature, NotCanonical>
+) -> Result<CanonicalFeature, Unsure>
     requires id { IfSome parts.now.id (λ n. n < 2 ^ 64) }
     requires kind { parts.now.kind ≢ kinds.Unknown }
     ensures found { IfOk result (λ known. (held : List AValue) → length held ≡ values
@@ -260,10 +260,10 @@ fn judge_parts<V: GeometryVisitor>(
     ensures same { keys.new ≡ keys.old }
 {
     if !draw_packed(visitor, parts.kind, parts.integers)? {
-        return Err(NotCanonical::Broken);
+        return Err(Unsure::SeemsBroken);
     }
     if !are_short(parts.integers) {
-        return Err(NotCanonical::Other);
+        return Err(Unsure::Undecided);
     }
     let mut order = UseOrder {
         keys: used.0,
@@ -277,7 +277,7 @@ fn judge_parts<V: GeometryVisitor>(
             },
             used: (order.keys, order.values),
         }),
-        PackedTags::Broken => Err(NotCanonical::Broken),
-        _ => Err(NotCanonical::Other),
+        PackedTags::Broken => Err(Unsure::SeemsBroken),
+        _ => Err(Unsure::Undecided),
     }
 }

@@ -20,7 +20,7 @@ mod validity;
 mod value;
 mod writing;
 
-pub use canonical_feature::{CanonicalFeature, NotCanonical, is_canonical_value, judge_canonical};
+pub use canonical_feature::{CanonicalFeature, Unsure, is_canonical_value, judge_canonical};
 pub use cause::Cause;
 pub use drawn_feature::append_drawn_feature;
 pub use feature::Feature;

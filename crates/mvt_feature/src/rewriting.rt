@@ -1,20 +1,22 @@
 //! Features made canonical from their payloads, with tags by index (Mapbox Vector Tile
 //! Specification 2.1, 4.2).
-ghost use Rattle.std.specs.Prelude.{◌≡◌, ◌⊎◌, ℕ, ◌+◌, ◌^◌, ◌<◌, ◌++◌, List, length, None, IfOk, IfErr, IfNone, IfSome, IsErrOf, OnErr, OnOk, OnSome};
+ghost use Rattle.std.specs.Prelude.{◌≡◌, ◌⊎◌, ℕ, ◌+◌, ◌^◌, ◌<◌, [], ◌∷◌, ◌++◌, List, length, None, IfOk, IfErr, IfNone, IfSome, IsErrOf, IsTrue, OnErr, OnOk};
 ghost use Rattle.mvt_base.specs.Related.{Extends};
 ghost use Rattle.mvt_base.specs.Reports.{Reports};
 ghost use Rattle.mvt_attrs.specs.Values.{Value};
 ghost use Rattle.mvt_attrs.specs.declared.value.Attribute.{Attribute};
 ghost use Rattle.mvt_attrs.specs.TagPlaces.{tags_in};
 ghost use Rattle.mvt_attrs.specs.Tags.{Names, Resolved};
-ghost use Rattle.mvt_attrs.specs.Using.{HasUses, IsUsedBy, used_of};
+ghost use Rattle.mvt_attrs.specs.Using.{AreSameUses, HasUses, IsUsedBy, used_of};
+ghost use Rattle.mvt_wire.specs.Field.{bytes};
 ghost use Rattle.mvt_wire.specs.Spelling.{short_numbers, spelled};
+ghost use Rattle.mvt_feature.specs.declared.numbers.feature.TheConstants.{GEOMETRY};
 ghost use Rattle.mvt_feature.specs.declared.feature.Feature.{Feature};
 ghost use Rattle.mvt_geometry.specs.declared.shape.Point.{Point as APoint};
 ghost use Rattle.mvt_geometry.specs.Drawing.{Draws};
 ghost use Rattle.mvt_geometry.specs.Shape.{kind_of};
 ghost use Rattle.mvt_geometry.specs.Visiting.{HasDrawn, Part};
-ghost use Rattle.mvt_feature.specs.Canonical.{id_fields, tags_fields, drawing_fields};
+ghost use Rattle.mvt_feature.specs.Canonical.{plain, id_fields, tags_fields, type_fields, drawing_fields};
 ghost use Rattle.mvt_feature.specs.Drawn.{integers_of};
 ghost use Rattle.mvt_feature.specs.Faults.{fault_of};
 ghost use Rattle.mvt_feature.specs.Features.{IsFeatureOf};
@@ -30,8 +32,8 @@ use crate::numbers::feature;
 use crate::parts::parts_in_any_order;
 use crate::reading::judge_into_scratch;
 use crate::scratch::Scratch;
-use crate::writing::{append_front, append_packed};
-use mvt_attrs::{LayerEntries, LayerKeys, PackedTags, judge_packed};
+use crate::writing::{append_front, append_packed, append_parts};
+use mvt_attrs::{LayerEntries, LayerKeys};
 use mvt_geometry::{GeometryVisitor, Kind, draw_packed};
 use mvt_wire::{are_short, put_packed};
 use std::alloc::{AllocError, Global};
@@ -42,8 +44,8 @@ use std::alloc::{AllocError, Global};
 /// copied. The geometry is passed to a visitor on the way.
 ///
 /// `None` if its fields are others, if an integer has a shorter spelling, if the type is unknown, or
-/// if a rule seems to be broken: then the visitor may have received some parts, and
-/// [`rewrite_feature`] does it or says what is wrong.
+/// if a rule seems to be broken: then the visitor may have received some parts, the same entries are
+/// used as before, and [`rewrite_feature`] does it or says what is wrong.
 ///
 /// # Errors
 ///
@@ -54,7 +56,6 @@ pub fn rewrite_usual_feature<V: GeometryVisitor>(
     payload: &[u8],
     keys: &mut LayerKeys<'_>,
     uses: &mut LayerEntries<'_>,
-    scratch: &mut Scratch,
     out: &mut Vec<u8>,
 ) -> Result<Option<FeatureFields>, AllocError>
     ensures feature { (held : List Value) → HasUses uses.old keys.old held
@@ -64,8 +65,9 @@ pub fn rewrite_usual_feature<V: GeometryVisitor>(
         × (fields.kind ≡ kind_of f.geometry)
         × HasDrawn V.has_parts V.has_integers visitor.old visitor.new f.geometry)) }
     ensures uses { (held : List Value) → HasUses uses.old keys.old held
-        → IfOk result (λ found. OnSome found (HasUses uses.new keys.old held)) }
-    ensures unused { IfOk result (λ found. IfNone found (uses.new ≡ uses.old)) }
+        → OnOk result (HasUses uses.new keys.old held) }
+    ensures unused { (held : List Value) → HasUses uses.old keys.old held
+        → IfOk result (λ found. IfNone found (AreSameUses uses.old uses.new)) }
     ensures unwritten { IfOk result (λ found. IfNone found (out.new ≡ out.old)) }
     ensures told { IfOk result (λ found. IfNone found ((parts : List Part)
         × (begun : List APoint) × V.has_parts visitor.old parts begun visitor.new)) }
@@ -82,41 +84,35 @@ pub fn rewrite_usual_feature<V: GeometryVisitor>(
     if !are_short(parts.integers) {
         return Ok(None);
     }
-    scratch.tags.clear();
-    let values = uses.values.len();
-    match judge_packed(alloc, &mut scratch.tags, keys, values, parts.tags)? {
-        PackedTags::Good { .. } => {}
-        PackedTags::Stopped => return Ok(None),
-        PackedTags::Broken => return Ok(None),
-    }
-    append_usual(&parts, uses, scratch, out)?;
+    let Some(is_same) = uses.use_packed(alloc, keys, parts.tags)? else {
+        return Ok(None);
+    };
+    append_usual(out, &parts, &uses.tags, is_same)?;
     Ok(Some(FeatureFields {
         id: parts.id,
         kind: parts.kind,
     }))
 }
 
-/// Appends the canonical payload of a feature of these parts, whose tags are in the scratch.
+/// Appends the canonical payload of a feature of these parts, but with these tags. Where `is_same`
+/// says so, they are copied.
 fn append_usual(
-    parts: &Parts<'_>,
-    uses: &mut LayerEntries<'_>,
-    scratch: &mut Scratch,
     out: &mut Vec<u8>,
+    parts: &Parts<'_>,
+    tags: &[u32],
+    is_same: bool,
 ) -> Result<(), AllocError>
-    ensures rewritten { (keys : List (List ℕ)) (held : List Value) (f : Feature)
-        → HasUses uses.old keys held → f.id ≡ parts.now.id
-        → Resolved keys held scratch.old.tags.items f.attributes
-        → (integers : List ℕ) → parts.now.integers.now ≡ short_numbers integers
-        → Draws parts.now.kind integers f.geometry
-        → OnOk result (IsRewritten f uses.old uses.new out.old.items out.new.items) }
-    ensures uses { (keys : List (List ℕ)) (held : List Value) (f : Feature)
-        → HasUses uses.old keys held → Resolved keys held scratch.old.tags.items f.attributes
-        → OnOk result (HasUses uses.new keys held) }
+    ensures ok { (IsTrue is_same → parts.now.tags.now ≡ short_numbers tags.now)
+        → OnOk result (out.new.items ≡ out.old.items
+        ++ spelled (id_fields parts.now.id ++ (tags_fields tags.now
+        ++ (type_fields parts.now.kind ++ plain GEOMETRY (bytes parts.now.integers.now) ∷ [])))) }
     ensures left { OnErr result (Extends out.old.items out.new.items) }
 {
-    use_tags(uses, scratch)?;
-    let tags = &scratch.written_tags;
-    append_packed(out, parts.id, tags, parts.kind, parts.integers)
+    if is_same {
+        append_parts(out, parts)
+    } else {
+        append_packed(out, parts.id, tags, parts.kind, parts.integers)
+    }
 }
 
 /// Writes the tags that those of the scratch become, and marks what they name as used.

@@ -8,8 +8,10 @@ ghost use Rattle.mvt_wire.specs.Field.{bytes as in_bytes};
 ghost use Rattle.mvt_wire.specs.Spelling.{spelled};
 ghost use Rattle.mvt_feature.specs.declared.numbers.feature.TheConstants.{GEOMETRY};
 ghost use Rattle.mvt_feature.specs.Canonical.{plain, value_fields, id_fields, tags_fields, type_fields, drawing_fields, type_number as the_type_number};
+ghost use Rattle.mvt_feature.specs.Copying.{packed_tags, parts_fields};
 ghost use Rattle.mvt_feature.specs.Rewriting.{IsRewritten};
 
+use crate::canonical_feature::Parts;
 use crate::feature::Feature;
 use crate::numbers::{feature, value};
 use crate::scratch::Scratch;
@@ -145,6 +147,27 @@ pub(crate) fn append_packed(
     put_field(out, feature::GEOMETRY, &Payload::Len(integers))
 }
 
+/// The same of a feature's parts, as they stand.
+pub(crate) fn append_parts(out: &mut Vec<u8>, parts: &Parts<'_>) -> Result<(), AllocError>
+    ensures ok { OnOk result (out.new.items ≡ out.old.items ++ spelled (parts_fields parts.now)) }
+    ensures left { OnErr result (Extends out.old.items out.new.items) }
+{
+    append_id(out, parts.id)?;
+    append_packed_tags(out, parts.tags)?;
+    append_kind(out, parts.kind)?;
+    put_field(out, feature::GEOMETRY, &Payload::Len(parts.integers))
+}
+
+fn append_packed_tags(out: &mut Vec<u8>, packed: &[u8]) -> Result<(), AllocError>
+    ensures ok { OnOk result (out.new.items ≡ out.old.items ++ spelled (packed_tags packed.now)) }
+    ensures err { OnErr result (out.new.items ≡ out.old.items) }
+{
+    if packed.is_empty() {
+        return Ok(());
+    }
+    put_field(out, feature::TAGS, &Payload::Len(packed))
+}
+
 /// Appends what stands before the integers of a feature: its id, its tags and its type.
 pub(crate) fn append_front(
     out: &mut Vec<u8>,
@@ -158,10 +181,10 @@ pub(crate) fn append_front(
 {
     append_id(out, id)?;
     append_tags_field(out, tags)?;
-    put_field(out, feature::TYPE, &Payload::Varint(type_number(kind)))
+    append_kind(out, kind)
 }
 
-pub(crate) fn append_id(out: &mut Vec<u8>, id: Option<u64>) -> Result<(), AllocError>
+fn append_id(out: &mut Vec<u8>, id: Option<u64>) -> Result<(), AllocError>
     ensures ok { OnOk result (out.new.items ≡ out.old.items ++ spelled (id_fields id)) }
     ensures err { OnErr result (out.new.items ≡ out.old.items) }
 {
@@ -181,7 +204,14 @@ fn append_tags_field(out: &mut Vec<u8>, tags: &[u32]) -> Result<(), AllocError>
     put_packed(out, feature::TAGS, tags)
 }
 
-pub(crate) fn type_number(kind: Kind) -> u64
+fn append_kind(out: &mut Vec<u8>, kind: Kind) -> Result<(), AllocError>
+    ensures ok { OnOk result (out.new.items ≡ out.old.items ++ spelled (type_fields kind)) }
+    ensures err { OnErr result (out.new.items ≡ out.old.items) }
+{
+    put_field(out, feature::TYPE, &Payload::Varint(type_number(kind)))
+}
+
+fn type_number(kind: Kind) -> u64
     ensures { result ≡ the_type_number kind }
 {
     match kind {

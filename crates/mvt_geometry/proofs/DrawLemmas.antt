@@ -1,5 +1,5 @@
 -- A walk over the pairs of a path that tells its points.
-use Rattle.std.proofs.Common.{◌≡◌, ℕ, ℤ, Some, slice_get, ◌+◌, ◌-◌, ◌*◌, ◌^◌, ◌<◌, ◌≤◌, ◌+ℤ◌, FitsSigned, to_z, of_z, List, [], ◌∷◌, ◌++◌, length, take, drop, refl, sym, ap, ap₂, subst, ◌∙◌, arith, append-nil, append_assoc, length-append, length-drop}
+use Rattle.std.proofs.Common.{◌≡◌, ℕ, ℤ, Some, slice_get, ◌+◌, ◌-◌, ◌*◌, ◌^◌, ◌<◌, ◌≤◌, ◌+ℤ◌, FitsSigned, to_z, of_z, List, [], ◌∷◌, ◌++◌, length, take, drop, refl, sym, ap, ap₂, subst, ◌∙◌, arith, append_assoc, length-append, length-drop}
 use Rattle.std.specs.Int.{w128}
 use Rattle.std.specs.Int.RustNames.{unsigned_abs}
 use Rattle.std.proofs.lemmas.List.{length_push, take_rest}
@@ -26,10 +26,6 @@ pairs_end (n ∷ (m ∷ rest)) h = absurd (omega (arith, h))
 
 module _ {from : Point} {parameters rest : List ℕ} {c : Point} {area : ℤ} {done : List Pair}
     (w : Passed from parameters rest c area done) where
-  -- no pair is left
-  pub all_passed : length rest < 2 → pairs_of parameters ≡ done
-  all_passed end = w.split ∙ ap (λ ds. done ++ ds) (pairs_end rest end) ∙ append-nil done
-
   -- one pair more
   pub passes : 2 ≤ length rest → (to : Point) (sum : ℤ) → to ≡ stepped c (first_pair rest) → sum ≡ area +ℤ cross c to
       → unsigned_abs sum ≤ (length done + 1) * 2 ^ 63

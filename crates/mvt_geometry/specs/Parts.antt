@@ -3,8 +3,8 @@ use Rattle.std.specs.Prelude.{ℕ, ℤ, pos, ◌≤ℤ◌, ◌<ℤ◌, List, [],
 use Rattle.std.specs.List.{AllByRecursion}
 use Rattle.mvt_geometry.specs.declared.shape.Point.{Point}
 use Rattle.mvt_geometry.specs.declared.shape.Polygon.{Polygon}
-use Rattle.mvt_geometry.specs.declared.drawing.RingRole.{RingRole}
-use Rattle.mvt_geometry.specs.declared.drawing.RingRole.TheVariants.{First, Exterior, Interior}
+use Rattle.mvt_geometry.specs.declared.strokes.RingRole.{RingRole}
+use Rattle.mvt_geometry.specs.declared.strokes.RingRole.TheVariants.{First, Exterior, Interior}
 use Rattle.mvt_geometry.specs.Area.{area2}
 use Rattle.mvt_geometry.specs.Shape.{AreSteps, joined, last_of, origin}
 use Rattle.mvt_geometry.specs.Valid.{AreInner, IsStroke}

@@ -7,7 +7,6 @@
 
 mod area;
 mod command;
-mod drawing;
 mod fault;
 mod judging;
 pub mod laws;
@@ -15,18 +14,21 @@ mod packed;
 mod position;
 mod reading;
 mod shape;
+mod strokes;
+mod telling;
 mod validity;
 mod visiting;
 mod writing;
 
 pub use area::twice_area;
-pub use drawing::{PartError, RingRole, append_integers, append_line, append_points, append_ring};
 pub use fault::{GeometryCause, GeometryError};
 pub use judging::judge_geometry;
 pub use packed::draw_packed;
 pub use position::Position;
 pub use reading::read_geometry;
 pub use shape::{Geometry, Kind, Point, Polygon, kind_of};
+pub use strokes::{PartError, RingRole, append_integers, append_line, append_points, append_ring};
+pub use telling::tell_geometry;
 pub use validity::is_valid_geometry;
 pub use visiting::{GeometryVisitor, Ignore, Ring, draw_geometry};
 pub use writing::{append_geometry, put_geometry};

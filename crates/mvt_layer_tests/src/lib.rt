@@ -3,20 +3,8 @@
 #![tactic(auto)]
 
 #[cfg(test)]
-mod canonical;
-#[cfg(test)]
-mod copying;
-#[cfg(test)]
 mod expect;
 #[cfg(test)]
-mod feature;
+mod layer;
 #[cfg(test)]
-mod message;
-#[cfg(test)]
-mod rewriting;
-#[cfg(test)]
-mod support;
-#[cfg(test)]
-mod usual;
-#[cfg(test)]
-mod writing;
+mod slow;

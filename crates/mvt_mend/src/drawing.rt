@@ -15,7 +15,7 @@ use std::alloc::{AllocError, Global};
 const MOST_POINTS: usize = 536_870_912;
 
 /// The integers that draw lines or rings; None where one can't be drawn.
-pub(crate) fn draw_parts(
+pub(crate) fn write_parts(
     alloc: Global,
     is_ring: bool,
     parts: &[Items<Point>],
@@ -25,7 +25,7 @@ pub(crate) fn draw_parts(
     let mut integers = Vec::new(alloc);
     let mut cursor = Point { x: 0, y: 0 };
     for part in parts {
-        let Some(last) = draw_part(&mut integers, is_ring, cursor, part.as_slice())? else {
+        let Some(last) = write_part(&mut integers, is_ring, cursor, part.as_slice())? else {
             return Ok(None);
         };
         cursor = last;
@@ -34,7 +34,7 @@ pub(crate) fn draw_parts(
 }
 
 /// Appends the integers of a line or ring, and answers its last point; None where it can't be drawn.
-fn draw_part(
+fn write_part(
     integers: &mut Vec<u32>,
     is_ring: bool,
     from: Point,
@@ -50,11 +50,11 @@ fn draw_part(
     }
     let (first, others) = part.split_at(1);
     integers.push(MOVE_TO_ONE)?;
-    let Some(first) = draw_path(integers, from, first)? else {
+    let Some(first) = write_path(integers, from, first)? else {
         return Ok(None);
     };
     integers.push(LINE_TO + 8 * (others.len() as u32))?;
-    let Some(last) = draw_path(integers, first, others)? else {
+    let Some(last) = write_path(integers, first, others)? else {
         return Ok(None);
     };
     close(integers, is_ring)?;
@@ -72,7 +72,7 @@ fn close(integers: &mut Vec<u32>, is_ring: bool) -> Result<(), AllocError>
 }
 
 /// Appends the pairs of a path, and answers its last point; None where a difference is too large.
-fn draw_path(
+fn write_path(
     integers: &mut Vec<u32>,
     from: Point,
     points: &[Point],
@@ -84,7 +84,7 @@ fn draw_path(
 {
     let mut cursor = from;
     for point in points {
-        if !draw_pair(integers, cursor, *point)? {
+        if !write_pair(integers, cursor, *point)? {
             return Ok(None);
         }
         cursor = *point;
@@ -93,7 +93,7 @@ fn draw_path(
 }
 
 /// Appends the pair that leads from one point to another; false where a difference is too large.
-fn draw_pair(integers: &mut Vec<u32>, from: Point, to: Point) -> Result<bool, AllocError>
+fn write_pair(integers: &mut Vec<u32>, from: Point, to: Point) -> Result<bool, AllocError>
     ensures near { IfOk result (λ r. r ≡ is_near from to) }
     ensures drawn { IfOk result (λ r. r ≡ true → integers.new.items
         ≡ integers.old.items ++ zig (to.x -ℤ from.x) ∷ zig (to.y -ℤ from.y) ∷ []) }

@@ -2,7 +2,7 @@
 ghost use Rattle.std.specs.Prelude.{◌≡◌, option_map, IfOk};
 ghost use Rattle.mvt_mend.specs.Geometry.{is_faultless as has_no_fault, mended_parts, if_drawn as drawn_or_nothing, mended_as, mended_geometry};
 
-use crate::drawing::draw_parts;
+use crate::drawing::write_parts;
 use crate::mending::{mend_lines, mend_rings};
 use crate::reading::read_parts;
 use mvt_base::Items;
@@ -51,7 +51,7 @@ fn mend_as(
     let Some(mended) = mend_parts(alloc, is_ring, integers.len(), parts.as_slice())? else {
         return Ok(None);
     };
-    let Some(drawn) = draw_parts(alloc, is_ring, mended.as_slice())? else {
+    let Some(drawn) = write_parts(alloc, is_ring, mended.as_slice())? else {
         return Ok(None);
     };
     Ok(if_drawn(kind, drawn))

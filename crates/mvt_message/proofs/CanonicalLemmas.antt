@@ -88,10 +88,7 @@ abbrev pub core_by : {Y : Type 0} → (Y → List ℕ) → List Y → List (List
 core_by g ys keys values = all_of FEATURES g ys ++ (all_of KEYS same_bytes keys ++ all_of VALUES value_bytes values)
 
 -- with the features behind
-abbrev pub turned_by : {Y : Type 0} → (Y → List ℕ) → List Y → List (List ℕ) → List Value → List Plain
-turned_by g ys keys values = all_of KEYS same_bytes keys ++ (all_of VALUES value_bytes values ++ all_of FEATURES g ys)
-
-tail_contents : {Y : Type 0} → (k : ℕ) (g : Y → List ℕ) (ys : List Y) (keys : List (List ℕ)) (values : List Value) (extent : ℕ)
+abbrev pub tail_contents : {Y : Type 0} → (k : ℕ) (g : Y → List ℕ) (ys : List Y) (keys : List (List ℕ)) (values : List Value) (extent : ℕ)
     (a b c : List Content)
     → contents_at k (all_of FEATURES g ys) ≡ a → contents_at k (all_of KEYS same_bytes keys) ≡ b
     → contents_at k (all_of VALUES value_bytes values) ≡ c
@@ -506,74 +503,6 @@ item_around g ys keys values layer head tail b is within head_fit tail_fit alike
     item_alike g ys keys values layer (head ++ (core ++ tail)) b is small
     (all_joined IsFit head (core ++ tail) head_fit (all_joined IsFit core tail (core_fits g ys keys values small) tail_fit))
     (any_order g ys keys values layer.name layer.extent head tail alike) name extent
-
--- keys and values may as well stand in front of features
-core_turned : {Y : Type 0} → (k : ℕ) (g : Y → List ℕ) (ys : List Y) (keys : List (List ℕ)) (values : List Value)
-    → contents_at k (turned_by g ys keys values) ≡ contents_at k (core_by g ys keys values)
-core_turned k g ys keys values =
-    let fs = all_of FEATURES g ys in
-    let ks = all_of KEYS same_bytes keys in
-    let vs = all_of VALUES value_bytes values in
-    ap (contents_at k) (sym (append_assoc ks vs fs)) ∙ fields_in_any_order_joined k (ks ++ vs) fs ∙ by_test (FEATURES == k) refl
-    ∙ sym (fields_in_any_order_joined k fs (ks ++ vs))
-  where
-    front : List Plain
-    front = all_of KEYS same_bytes keys ++ all_of VALUES value_bytes values
-
-    by_test : (t : Bool) → (FEATURES == k) ≡ t
-        → contents_at k front ++ contents_at k (all_of FEATURES g ys) ≡ contents_at k (all_of FEATURES g ys) ++ contents_at k front
-    by_test true e =
-        let here : contents_at FEATURES front ≡ [] =
-        fields_in_any_order_joined FEATURES (all_of KEYS same_bytes keys) (all_of VALUES value_bytes values)
-        ∙ ap₂ (λ a b. a ++ b) (contents_other KEYS FEATURES same_bytes keys refl) (contents_other VALUES FEATURES value_bytes values refl) in
-        let none : contents_at k front ≡ [] = subst (λ j. contents_at j front ≡ []) (eqb-true FEATURES k e) here in
-        ap (λ c. c ++ contents_at k (all_of FEATURES g ys)) none ∙ sym (append-nil (contents_at k (all_of FEATURES g ys)))
-        ∙ ap (λ c. contents_at k (all_of FEATURES g ys) ++ c) (sym none)
-    by_test false e =
-        let none : contents_at k (all_of FEATURES g ys) ≡ [] = contents_other FEATURES k g ys e in
-        ap (λ c. contents_at k front ++ c) none ∙ append-nil (contents_at k front) ∙ ap (λ c. c ++ contents_at k front) (sym none)
-
-turned_length : {Y : Type 0} → (g : Y → List ℕ) (ys : List Y) (keys : List (List ℕ)) (values : List Value)
-    → length (spelled (core_by g ys keys values)) ≡ length (spelled (turned_by g ys keys values))
-turned_length g ys keys values =
-    let fs = all_of FEATURES g ys in
-    let ks = all_of KEYS same_bytes keys in
-    let vs = all_of VALUES value_bytes values in
-    let a = spelled_length fs (ks ++ vs) in
-    let b = spelled_length ks vs in
-    let c = spelled_length ks (vs ++ fs) in
-    let d = spelled_length vs fs in
-    omega (arith, a, b, c, d)
-
--- the same of a layer whose keys and values stand in front of its features
-pub item_turned : {Y : Type 0} → (g : Y → List ℕ) (ys : List Y) (keys : List (List ℕ)) (values : List Value) (layer : ALayer)
-    (head tail : List Plain) (b : List ℕ)
-    → b ≡ spelled (head ++ (turned_by g ys keys values ++ tail)) → length b < 2 ^ 32
-    → AllByRecursion IsFit head → AllByRecursion IsFit tail → AreAlike (head ++ tail) (head_fields layer.name ++ extent_fields layer.extent)
-    → IsUtf8 layer.name → layer.extent < 2 ^ 32 → AllByRecursion IsUtf8 keys → AllByRecursion ValidValue values
-    → ((zs : List Entry) → map (λ (z : Entry). z.content) zs ≡ map (λ y. bytes (g y)) ys
-    → AreRelated (HoldsFeature keys values) zs layer.features)
-    → IsItem b (Layer layer)
-item_turned g ys keys values layer head tail b is within head_fit tail_fit alike name extent =
-    let fs = all_of FEATURES g ys in
-    let ks = all_of KEYS same_bytes keys in
-    let vs = all_of VALUES value_bytes values in
-    let turned = turned_by g ys keys values in
-    let small : length (spelled (core_by g ys keys values)) < 2 ^ 32 =
-    omega (arith, core_within head turned tail b is, turned_length g ys keys values) in
-    let fits = core_fits g ys keys values small in
-    let pools = all_right IsFit fs (ks ++ vs) fits in
-    let turned_fit = all_joined IsFit ks (vs ++ fs) (all_left IsFit ks vs pools)
-    (all_joined IsFit vs fs (all_right IsFit ks vs pools) (all_left IsFit fs (ks ++ vs) fits)) in
-    item_alike g ys keys values layer (head ++ (turned ++ tail)) b is small
-    (all_joined IsFit head (turned ++ tail) head_fit (all_joined IsFit turned tail turned_fit tail_fit))
-    (λ k.
-    let core = core_by g ys keys values in
-    fields_in_any_order_joined k head (turned ++ tail)
-    ∙ ap (λ c. contents_at k head ++ c) (fields_in_any_order_joined k turned tail
-    ∙ ap (λ c. c ++ contents_at k tail) (core_turned k g ys keys values) ∙ sym (fields_in_any_order_joined k core tail))
-    ∙ sym (fields_in_any_order_joined k head (core ++ tail)) ∙ any_order g ys keys values layer.name layer.extent head tail alike k)
-    name extent
 
 -- features in their canonical payloads
 pub features_are : (keys : List (List ℕ)) (values : List Value) (features : List Feature) → length keys ≤ 2 ^ 32 → length values ≤ 2 ^ 32

@@ -198,40 +198,6 @@ split_spelled f n ys =
 pub rest_of : {Y : Type 0} → (n : ℕ) (ys : List Y) → take (length ys - n) (drop n ys) ≡ drop n ys
 rest_of n ys = ap (λ m. take m (drop n ys)) (sym (length-drop n ys)) ∙ take-length (drop n ys)
 
--- the first of the fields that stand from one place to another
-used_part : {Y : Type 0} → (f : Y → Plain) (n : ℕ) (ys : List Y) (body : List ℕ) (start end at : ℕ)
-    → drop start body ≡ spelled (map f ys) ++ drop end body → start ≤ length body → end ≤ length body
-    → at + length (spelled (map f (drop n ys))) ≡ end → take (at - start) (drop start body) ≡ spelled (map f (take n ys))
-used_part f n ys body start end at is start_within within end_is =
-    let front = spelled (map f (take n ys)) in
-    let rest = spelled (map f (drop n ys)) in
-    let whole : drop start body ≡ front ++ (rest ++ drop end body) =
-    is ∙ ap (λ l. l ++ drop end body) (split_spelled f n ys) ∙ append_assoc front rest (drop end body) in
-    let size = fields_end body (spelled (map f ys)) start end is start_within within in
-    let parts = ap length (split_spelled f n ys) ∙ length-append front rest in
-    let long : at - start ≡ length front = omega (arith, size, parts, end_is) in
-    ap₂ (λ m b. take m b) long whole ∙ take-append_seam front (rest ++ drop end body)
-
-pub used_keys_part : (body : List ℕ) (start end at n : ℕ) (texts : List (Bor (List ℕ))) (keys : List (List ℕ))
-    → ArePayloadsFrom body start KEYS texts end → keys ≡ lent texts → start ≤ length body
-    → at + length (spelled (map (lent_field KEYS) (drop n texts))) ≡ end
-    → take (at - start) (drop start body) ≡ spelled (map key_field (take n keys))
-used_keys_part body start end at n texts keys (within, is) are start_within end_is =
-    used_part key_field n keys body start end at (is ∙ ap (λ fs. spelled fs ++ drop end body) (keys_as_lent texts keys (sym are)))
-    start_within within
-    (ap (λ fs. at + length (spelled fs)) (sym (keys_as_lent (drop n texts) (drop n keys)
-    (sym (drop-map (λ (b : Bor (List ℕ)). b.now) n texts) ∙ ap (drop n) (sym are)))) ∙ end_is)
-
-pub used_values_part : (body : List ℕ) (start end at n : ℕ) (payloads : List (Bor (List ℕ))) (values : List Value)
-    → drop start body ≡ spelled (map value_field values) ++ drop end body → lent payloads ≡ map value_bytes values
-    → start ≤ length body → end ≤ length body
-    → at + length (spelled (map (lent_field VALUES) (drop n payloads))) ≡ end
-    → take (at - start) (drop start body) ≡ spelled (map value_field (take n values))
-used_values_part body start end at n payloads values is are start_within within end_is =
-    used_part value_field n values body start end at is start_within within
-    (ap (λ fs. at + length (spelled fs)) (sym (values_as_lent (drop n payloads) (drop n values)
-    (sym (drop-map (λ (b : Bor (List ℕ)). b.now) n payloads) ∙ ap (drop n) are ∙ drop-map value_bytes n values))) ∙ end_is)
-
 -- one more field of a list, by lengths
 len_step : {Y : Type 0} → (g : Y → Plain) (ys : List Y) (i : ℕ) {y : Y} (start old new : ℕ) → Some y ≡ slice_get ys i
     → old ≡ start + length (spelled (map g (take i ys))) → new ≡ old + length (short_field (g y).number (g y).content)

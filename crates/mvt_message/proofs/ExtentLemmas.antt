@@ -1,8 +1,7 @@
 -- An extent by fields one after the other.
-use Rattle.std.proofs.Common.{◌≡◌, ℕ, ◌<◌, ◌^◌, ◌==◌, Bool, true, false, List, [], ◌∷◌, Option, Some, None, unwrap_or, if◌then◌else◌, Ok, Err, refl, sym, ap, ◌∙◌, subst}
+use Rattle.std.proofs.Common.{◌≡◌, ℕ, ◌<◌, ◌^◌, ◌==◌, Bool, true, false, List, [], ◌∷◌, Option, Some, None, unwrap_or, if◌then◌else◌, Ok, refl, sym, ap, ◌∙◌, subst}
 use Rattle.std.specs.List.{last_or}
 use Rattle.mvt_wire.specs.declared.field.Field.{Field}
-use Rattle.mvt_wire.specs.declared.fault.WireFault.{WireFault}
 use Rattle.mvt_wire.specs.Field.{Entry, content_of}
 use Rattle.mvt_wire.specs.Fields.{GivesEntry}
 use Rattle.mvt_wire.specs.Split.{Parts, split}
@@ -56,10 +55,6 @@ module _ (payload : List ℕ) (extent : ℕ) (old new : Parts) where
       → e ≡ extent_after extent field.number (content_of field.payload) → Same e new
   extent_more field e same step e_is =
       same ∙ ap (λ (p : Parts). extent_from extent p.fields) step.0 ∙ ap (λ n. extent_from n new.fields) (sym e_is)
-
-  -- what is no field adds nothing
-  pub extent_over : (fault : WireFault) → Same extent old → GivesEntry old (Some (Err fault)) new → Same extent new
-  extent_over fault same step = same ∙ ap (λ (xs : List Entry). extent_from extent xs) (step.0 ∙ sym step.4)
 
   pub extent_ends : (layer : ALayer) → Same extent old → old.fields ≡ [] → IsItem payload (Layer layer) → extent ≡ layer.extent
   extent_ends layer same none is =

@@ -1,11 +1,8 @@
 -- A name and a version by fields one after the other.
-use Rattle.std.proofs.Common.{◌≡◌, ℕ, ◌==◌, Bool, true, false, List, [], ◌∷◌, Option, Some, None, if◌then◌else◌, Ok, Err, refl, sym, ap, ap₂, ◌∙◌}
+use Rattle.std.proofs.Common.{◌≡◌, ℕ, ◌==◌, Bool, true, false, List, [], ◌∷◌, Option, Some, None, if◌then◌else◌, refl, sym, ap, ap₂, ◌∙◌}
 use Rattle.std.specs.List.{last_or}
 use Rattle.std.specs.Option.{option_map, option_to_list}
-use Rattle.mvt_wire.specs.declared.field.Field.{Field}
-use Rattle.mvt_wire.specs.declared.fault.WireFault.{WireFault}
-use Rattle.mvt_wire.specs.Field.{Entry, content_of}
-use Rattle.mvt_wire.specs.Fields.{GivesEntry}
+use Rattle.mvt_wire.specs.Field.{Entry}
 use Rattle.mvt_wire.specs.Split.{Parts, split}
 use Rattle.mvt_feature.specs.Features.{number_in, number_of}
 use Rattle.mvt_feature.specs.Selection.{only}
@@ -61,21 +58,6 @@ module _ (payload : List ℕ) (two : Bool) (name : Option (List ℕ)) (old new :
   abbrev Same : Bool → Option (List ℕ) → Parts → Type 0
   Same t n to_come = (version_from false (split payload).fields ≡ version_from t to_come.fields)
       × (name_from None (split payload).fields ≡ name_from n to_come.fields)
-
-  pub naming_more : (field : Field) (t : Bool) (n : Option (List ℕ)) → Same two name old → GivesEntry old (Some (Ok field)) new
-      → t ≡ (if field.number == VERSION then is_two (number_of (content_of field.payload)) else two)
-      → n ≡ (if field.number == NAME then Some (bytes_of (content_of field.payload)) else name) → Same t n new
-  naming_more field t n same step t_is n_is = (
-    same.0 ∙ ap (λ (p : Parts). version_from two p.fields) step.0 ∙ ap (λ b. version_from b new.fields) (sym t_is),
-    same.1 ∙ ap (λ (p : Parts). name_from name p.fields) step.0 ∙ ap (λ o. name_from o new.fields) (sym n_is),
-  )
-
-  -- what is no field adds nothing
-  pub naming_over : (fault : WireFault) → Same two name old → GivesEntry old (Some (Err fault)) new → Same two name new
-  naming_over fault same step = (
-    same.0 ∙ ap (λ (xs : List Entry). version_from two xs) (step.0 ∙ sym step.4),
-    same.1 ∙ ap (λ (xs : List Entry). name_from name xs) (step.0 ∙ sym step.4),
-  )
 
   pub naming_ends : Same two name old → old.fields ≡ [] → (if two then option_to_list name else []) ≡ payload_names payload
   naming_ends same none =

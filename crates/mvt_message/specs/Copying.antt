@@ -13,8 +13,8 @@ use Rattle.mvt_feature.specs.Canonical.{plain, value_fields}
 use Rattle.mvt_feature.specs.Copying.{AreReady}
 use Rattle.mvt_feature.specs.Valid.{ValidFeature, ValidValue}
 use Rattle.mvt_message.specs.declared.layer_copying.CopiedLayer.{CopiedLayer}
-use Rattle.mvt_message.specs.declared.layer_copying.Frame.{Frame}
-use Rattle.mvt_message.specs.declared.layer_copying.Front.{Front}
+use Rattle.mvt_message.specs.declared.layer_frame.Frame.{Frame}
+use Rattle.mvt_message.specs.declared.layer_frame.Front.{Front}
 use Rattle.mvt_message.specs.declared.item.Layer.{Layer as ALayer}
 use Rattle.mvt_message.specs.declared.item.Item.TheVariants as items
 use Rattle.mvt_message.specs.declared.numbers.layer.TheConstants.{KEYS}

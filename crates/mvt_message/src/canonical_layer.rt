@@ -7,11 +7,12 @@ ghost use Rattle.mvt_message.specs.Copying.{IsCanonicalLayer, IsFrameOf, IsInPla
 
 use crate::around::{may_end_with_extent, name_at};
 use crate::feature_visitor::FeatureVisitor;
-use crate::layer_copying::{Frame, bounds_of, end_of, front_of, layer_in};
+use crate::layer_copying::layer_in;
+use crate::layer_frame::{Frame, bounds_of, end_of, front_of};
 use crate::looking::may_begin_in_order;
 use crate::numbers::layer;
 use mvt_base::LIMIT;
-use mvt_feature::NotCanonical;
+use mvt_feature::Unsure;
 use mvt_wire::short_number_at;
 use std::alloc::Global;
 
@@ -25,7 +26,7 @@ pub fn visit_canonical<'a, V: FeatureVisitor>(
     alloc: Global,
     visitor: &mut V,
     payload: &'a [u8],
-) -> Result<&'a str, NotCanonical>
+) -> Result<&'a str, Unsure>
     requires { length payload.now ≤ LIMIT }
     ensures { (items : List Item) → V.has_features items visitor.old [] → IfOk result
         (λ name. IsCanonicalLayer (V.has_features items visitor.new) payload.now name.now) }
@@ -34,25 +35,25 @@ pub fn visit_canonical<'a, V: FeatureVisitor>(
     let (features_at, end) = bounds_of(&frame);
     let layer = layer_in(alloc, visitor, payload, frame)?;
     if features_at + layer.front.len() + layer.values.len() != end {
-        return Err(NotCanonical::Other);
+        return Err(Unsure::Undecided);
     }
     Ok(layer.name)
 }
 
 /// The frame of a layer whose version, name and extent stand in the canonical order.
-fn frame_in_place(alloc: Global, payload: &[u8]) -> Result<Frame<'_>, NotCanonical>
+fn frame_in_place(alloc: Global, payload: &[u8]) -> Result<Frame<'_>, Unsure>
     ensures frame { IfOk result (IsFrameOf payload.now) }
     ensures place { IfOk result (IsInPlace payload.now) }
 {
     let Some((name, features_at)) = head_in_place(payload) else {
-        return Err(NotCanonical::Other);
+        return Err(Unsure::Undecided);
     };
     if !may_end_with_extent(payload) || !may_begin_in_order(payload, features_at) {
-        return Err(NotCanonical::Other);
+        return Err(Unsure::Undecided);
     }
     let front = front_of(alloc, payload, features_at)?;
     let Some(extent) = extent_at_end(payload, end_of(&front)) else {
-        return Err(NotCanonical::Other);
+        return Err(Unsure::Undecided);
     };
     Ok(Frame {
         name,

@@ -96,7 +96,7 @@ fn rewrite_told<V: FeatureVisitor>(
         (feature_fault payload.now payload_at keys.old held)) }
     ensures same { keys.new ≡ keys.old }
 {
-    match rewrite_usual_feature(alloc, visitor, payload, keys, uses, scratch, out)? {
+    match rewrite_usual_feature(alloc, visitor, payload, keys, uses, out)? {
         Some(known) => Ok(known),
         None => {
             visitor.begin_feature();

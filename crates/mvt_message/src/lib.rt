@@ -3,6 +3,7 @@
 #![tactic(auto)]
 
 mod around;
+mod canonical_features;
 mod canonical_layer;
 mod extent;
 mod feature_visitor;
@@ -13,6 +14,7 @@ mod item_writing;
 pub mod laws;
 mod layer_copying;
 mod layer_fields;
+mod layer_frame;
 mod layer_header;
 mod layer_rewriting;
 mod layer_writer;
@@ -36,7 +38,7 @@ pub use layer_rewriting::{LayerRewriter, Rewritten, RewrittenLayer};
 pub use layer_writer::LayerWriter;
 pub use mvt_base::LIMIT;
 pub use mvt_feature::{
-    Cause, Feature, FeatureFields, MessageError, NotCanonical, read_feature, read_value,
+    Cause, Feature, FeatureFields, MessageError, Unsure, read_feature, read_value,
 };
 pub use naming::{has_name, name_in};
 pub use reading::{judge_item, read_item};

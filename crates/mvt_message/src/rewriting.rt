@@ -21,7 +21,7 @@ use crate::reading::judge_item;
 use crate::version::early_version;
 use crate::visiting::visit_version_2;
 use mvt_base::LIMIT;
-use mvt_feature::{MessageError, NotCanonical};
+use mvt_feature::{MessageError, Unsure};
 use mvt_geometry::Ignore;
 use std::alloc::{AllocError, Global};
 
@@ -63,13 +63,13 @@ pub fn rewrite_item<'a>(
             append_copied(out, &layer, payload.len())?;
             Ok(Some(layer.name))
         }
-        Err(NotCanonical::Memory) => Err(MessageError::Memory),
-        Err(NotCanonical::Broken) => {
+        Err(Unsure::Memory) => Err(MessageError::Memory),
+        Err(Unsure::SeemsBroken) => {
             // Judging tells the fault in less time than rewriting up to it.
             judge_item(alloc, payload, payload_at, tag_at)?;
             rewrite_anew(alloc, payload, payload_at, tag_at, out)
         }
-        Err(NotCanonical::Other) => rewrite_anew(alloc, payload, payload_at, tag_at, out),
+        Err(Unsure::Undecided) => rewrite_anew(alloc, payload, payload_at, tag_at, out),
     }
 }
 

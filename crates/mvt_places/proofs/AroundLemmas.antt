@@ -64,9 +64,6 @@ module _ (before : List Integer) (most at : ℕ) (b : List ℕ) (read : List Int
   pub spelling_none : SpellsNone rest → read ≡ before ++ integers_from most at b
   spelling_none none = sym (append-nil read) ∙ sym (ap (λ xs. read ++ xs) (no_more left place rest none)) ∙ spelling.same
 
-  pub spelling_ends : left ≡ 0 → read ≡ before ++ integers_from most at b
-  spelling_ends due = sym (append-nil read) ∙ sym (ap (λ (m : ℕ). read ++ integers_from m place rest) due) ∙ spelling.same
-
 -- the integers stand where numbers are spelled
 
 spelled_from : (n at : ℕ) (b : List ℕ) → map place_of (integers_from n at b) ≡ spellings n at b

@@ -1,12 +1,10 @@
 -- The fields of a message, one after the other.
-use Rattle.std.proofs.Common.{◌≡◌, ℕ, suc, ◌==◌, ◌+◌, ◌-◌, ◌<◌, ◌≤◌, Bool, true, false, List, [], ◌∷◌, length, drop, Option, Some, None, Ok, Err, if◌then◌else◌, refl, sym, ap, subst, ◌∙◌, arith}
+use Rattle.std.proofs.Common.{◌≡◌, ℕ, ◌==◌, ◌+◌, ◌-◌, ◌<◌, ◌≤◌, Bool, true, false, List, [], ◌∷◌, length, drop, Option, None, Ok, if◌then◌else◌, refl, sym, ap, subst, ◌∙◌, arith}
 use Rattle.std.specs.Prelude.{◌&&◌, IfSome, filter, find, slice_get, slice_range}
 use Rattle.std.specs.List.{last_or}
 use Rattle.std.proofs.lemmas.List.{length-drop, length-take-le, take-append-drop, drop_all}
-use Rattle.mvt_wire.specs.declared.field.Field.{Field}
-use Rattle.mvt_wire.specs.declared.fault.WireFault.{WireFault}
-use Rattle.mvt_wire.specs.Field.{Entry, IsFieldAt, StartsNoField, entry_of}
-use Rattle.mvt_wire.specs.Fields.{GivesEntry, EndsBy}
+use Rattle.mvt_wire.specs.Field.{Entry, IsFieldAt, StartsNoField}
+use Rattle.mvt_wire.specs.Fields.{EndsBy}
 use Rattle.mvt_wire.specs.Fronts.{entry_at}
 use Rattle.mvt_wire.specs.Split.{Parts, split}
 use Rattle.mvt_wire.proofs.WireLaws.{field_function_spelled, field_function_none, field_function_end}
@@ -79,40 +77,6 @@ seek_start form k all index to_come is place = record {
       ∙ ap (λ (p : Parts). slice_get (filter (is_of form k) p.fields) index) (sym is);
   within = omega arith;
 }
-
-module _ (form : Form) (k : ℕ) (all : List ℕ) (index left : ℕ) (old new : Parts) (seeking : Seeking form k all index left old) where
-  stepped : (x : Entry) (b : Bool) → is_of form k x ≡ b → old.fields ≡ x ∷ new.fields → slice_get (formed form k (split all).fields) index
-      ≡ slice_get (if b then x ∷ filter (is_of form k) new.fields else filter (is_of form k) new.fields) left
-  stepped x b is step =
-      seeking.same ∙ ap (λ xs. slice_get (filter (is_of form k) xs) left) step
-      ∙ ap (λ t. slice_get (if t then x ∷ filter (is_of form k) new.fields else filter (is_of form k) new.fields) left) is
-
-  pub seek_over : (field : Field) → GivesEntry old (Some (Ok field)) new → is_of form k (entry_of field) ≡ false
-      → Seeking form k all index left new
-  seek_over field step is = record {
-    same = stepped (entry_of field) false is (ap (λ (p : Parts). p.fields) step.0);
-    within = subst (λ n. n ≤ length all) (ap (λ (p : Parts). p.rest_at) step.0) seeking.within;
-  }
-
-  pub seek_past : (field : Field) (less : ℕ) → GivesEntry old (Some (Ok field)) new → is_of form k (entry_of field) ≡ true
-      → left ≡ suc less → Seeking form k all index less new
-  seek_past field less step is due = record {
-    same = stepped (entry_of field) true is (ap (λ (p : Parts). p.fields) step.0)
-        ∙ ap (slice_get (entry_of field ∷ filter (is_of form k) new.fields)) due;
-    within = subst (λ n. n ≤ length all) (ap (λ (p : Parts). p.rest_at) step.0) seeking.within;
-  }
-
-  pub seek_found : (field : Field) → GivesEntry old (Some (Ok field)) new → is_of form k (entry_of field) ≡ true → left ≡ 0
-      → Some (entry_of field) ≡ slice_get (formed form k (split all).fields) index
-  seek_found field step is due =
-      sym (stepped (entry_of field) true is (ap (λ (p : Parts). p.fields) step.0)
-      ∙ ap (slice_get (entry_of field ∷ filter (is_of form k) new.fields)) due)
-
-  pub seek_broken : (fault : WireFault) → GivesEntry old (Some (Err fault)) new → None ≡ slice_get (formed form k (split all).fields) index
-  seek_broken fault step = sym (seeking.same ∙ ap (λ xs. slice_get (filter (is_of form k) xs) left) step.0)
-
-  pub seek_ends : GivesEntry old None new → None ≡ slice_get (formed form k (split all).fields) index
-  seek_ends step = sym (seeking.same ∙ ap (λ xs. slice_get (filter (is_of form k) xs) left) step.0)
 
 pub last_start : (form : Form) (k : ℕ) (all : List ℕ) (to_come : Parts) → to_come ≡ split all
     → to_come.rest_at + length to_come.rest ≡ length all → Lasting form k all None to_come

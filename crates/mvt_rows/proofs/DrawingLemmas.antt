@@ -6,8 +6,8 @@ use Rattle.std.specs.Prelude.{◌↔◌, ◌==◌, if◌then◌else◌}
 use Rattle.std.proofs.lemmas.Grind.{flat_map-append}
 use Rattle.std.proofs.lemmas.List.{map-append}
 use Rattle.mvt_base.proofs.ListLemmas.{all_joined, all_left, all_right}
-use Rattle.mvt_geometry.specs.declared.drawing.RingRole.{RingRole}
-use Rattle.mvt_geometry.specs.declared.drawing.RingRole.TheVariants.{First, Exterior, Interior}
+use Rattle.mvt_geometry.specs.declared.strokes.RingRole.{RingRole}
+use Rattle.mvt_geometry.specs.declared.strokes.RingRole.TheVariants.{First, Exterior, Interior}
 use Rattle.mvt_geometry.specs.declared.shape.Geometry.{Geometry}
 use Rattle.mvt_geometry.specs.declared.shape.Geometry.TheVariants.{Unknown, Points, Lines, Polygons}
 use Rattle.mvt_geometry.specs.declared.shape.Kind.TheVariants as kinds

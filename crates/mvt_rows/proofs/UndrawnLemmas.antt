@@ -5,13 +5,13 @@ use Rattle.std.specs.List.{AllByRecursion}
 use Rattle.std.specs.Option.{option_map, option_or}
 use Rattle.std.specs.Ordering.{int_eq}
 use Rattle.std.proofs.lemmas.Bool.{le-ltb, ltb-false}
-use Rattle.std.proofs.lemmas.Bool.Decides.{Decides-int_eq, nat_tests}
+use Rattle.std.proofs.lemmas.Bool.Decides.{Decides-int_eq}
 use Rattle.std.proofs.lemmas.Int.{ints, by_lt_z}
 use Rattle.std.proofs.lemmas.List.{drop_more}
 use Rattle.mvt_base.proofs.RuleLemmas.{option_or-none, option_or-nones, option_or-some}
 use Rattle.mvt_base.proofs.TableLemmas.{none_mapped}
-use Rattle.mvt_geometry.specs.declared.drawing.RingRole.{RingRole}
-use Rattle.mvt_geometry.specs.declared.drawing.RingRole.TheVariants.{First, Exterior, Interior}
+use Rattle.mvt_geometry.specs.declared.strokes.RingRole.{RingRole}
+use Rattle.mvt_geometry.specs.declared.strokes.RingRole.TheVariants.{First, Exterior, Interior}
 use Rattle.mvt_geometry.specs.declared.shape.Geometry.TheVariants.{Points}
 use Rattle.mvt_geometry.specs.declared.shape.Point.{Point}
 use Rattle.mvt_geometry.specs.Area.{area2}
@@ -25,7 +25,7 @@ use Rattle.mvt_rows.specs.declared.undrawn.Undrawn.{Undrawn}
 use Rattle.mvt_rows.specs.declared.rows.PointRow.{PointRow}
 use Rattle.mvt_rows.specs.TileRows.{point_of}
 use Rattle.mvt_rows.specs.Drawing.{AreJudged, end_from}
-use Rattle.mvt_rows.specs.Undrawn.{Stroke, allows, area_fault, area_rule, at_point, count_fault, is_out, is_zero, of_part, part_by, parts_fault, path_fault, points_fault, step_rule, stroke_fault}
+use Rattle.mvt_rows.specs.Undrawn.{Stroke, allows, area_fault, area_rule, at_point, count_fault, is_out, is_zero, of_part, part_by, parts_fault, path_fault, step_rule, stroke_fault}
 
 -- ---- tests
 
@@ -149,20 +149,6 @@ path_none line part number c (p ∷ ps) h =
     let more = path_none line part (suc number) p ps both.1 in
     ((step.place, more.0), (step.step, more.1), λ t. (step.away t, more.2 t))
 
--- the first point of a path, whose step breaks this rule or none
-pub path_stops : (line : Bool) (part number : ℕ) (c p : Point) (ps rest : List Point) (rule : DrawingRule) → ps ≡ p ∷ rest
-    → step_rule line c p ≡ Some rule → path_fault line part number c ps ≡ Some (at_point part number rule)
-path_stops line part number c p ps rest rule is broken =
-    ap (path_fault line part number c) is
-    ∙ ap (λ o. option_or (option_map (at_point part number) o) (path_fault line part (suc number) p rest)) broken
-
-pub path_goes : (line : Bool) (part number next : ℕ) (c p : Point) (ps rest : List Point) → ps ≡ p ∷ rest → next ≡ suc number
-    → step_rule line c p ≡ None → path_fault line part next p rest ≡ path_fault line part number c ps
-path_goes line part number next c p ps rest is after none =
-    ap (λ n. path_fault line part n p rest) after
-    ∙ sym (ap (path_fault line part number c) is
-    ∙ ap (λ o. option_or (option_map (at_point part number) o) (path_fault line part (suc number) p rest)) none)
-
 -- the points that are left, the next of which is p
 pub points_at : (rows : List PointRow) (i : ℕ) (row : PointRow) (p : Point) → i < length rows → row ≡ get_or rows i row → p ≡ point_of row
     → map point_of (drop i rows) ≡ p ∷ map point_of (drop (i + 1) rows)
@@ -251,16 +237,6 @@ ring_by_area part role c ring none refused =
     option_or-none (stroke_fault part 3 c ring) (area_fault part role ring) none
     ∙ area_told part (area_rule role) (allows role (area2 ring))
     (area_refused role (area2 ring) (λ area. refused area (stroke_none part 3 c ring none)))
-
-pub points_few : (ps : List Point) (few : Bool) → (nat_lt 0 (length ps) && nat_lt (length ps) (2 ^ 29)) ≡ few → few ≡ false
-    → points_fault ps ≡ Some (of_part 0 Count)
-points_few ps few is none =
-    ap (λ (b : Bool). if b then path_fault false 0 0 origin ps else Some (of_part 0 Count)) (is ∙ none)
-
-pub points_enough : (ps : List Point) → 0 < length ps → length ps < 2 ^ 29 → points_fault ps ≡ path_fault false 0 0 origin ps
-points_enough ps some few =
-    let yes : (nat_lt 0 (length ps) && nat_lt (length ps) (2 ^ 29)) ≡ true = grind (arith, nat_tests) in
-    ap (λ (b : Bool). if b then path_fault false 0 0 origin ps else Some (of_part 0 Count)) yes
 
 pub points_valid : (ps : List Point) → 0 < length ps → length ps < 2 ^ 29 → path_fault false 0 0 origin ps ≡ None → IsValid (Points ps)
 points_valid ps some few none = let path = path_none false 0 0 origin ps none in (some, few, path.0, path.1)

@@ -1,7 +1,7 @@
 -- Geometries that are drawn from their rows. No public contract cites this.
 use Rattle.std.specs.Prelude.{◌≡◌, ◌↔◌, ℕ, ◌<◌, length, Bool, true, false, List, [], ◌∷◌, ◌++◌, Option, Some, None, option_and_then, Result, Ok, Err}
-use Rattle.mvt_geometry.specs.declared.drawing.RingRole.{RingRole}
-use Rattle.mvt_geometry.specs.declared.drawing.RingRole.TheVariants.{First, Exterior, Interior}
+use Rattle.mvt_geometry.specs.declared.strokes.RingRole.{RingRole}
+use Rattle.mvt_geometry.specs.declared.strokes.RingRole.TheVariants.{First, Exterior, Interior}
 use Rattle.mvt_geometry.specs.declared.shape.Geometry.{Geometry}
 use Rattle.mvt_geometry.specs.declared.shape.Kind.{Kind}
 use Rattle.mvt_geometry.specs.declared.shape.Point.{Point}

@@ -6,8 +6,8 @@ use Rattle.std.specs.Int.Signed.{lt_z}
 use Rattle.std.specs.List.{flat_map}
 use Rattle.std.specs.Option.{option_map, option_or}
 use Rattle.std.specs.Ordering.{int_eq}
-use Rattle.mvt_geometry.specs.declared.drawing.RingRole.{RingRole}
-use Rattle.mvt_geometry.specs.declared.drawing.RingRole.TheVariants.{First, Exterior, Interior}
+use Rattle.mvt_geometry.specs.declared.strokes.RingRole.{RingRole}
+use Rattle.mvt_geometry.specs.declared.strokes.RingRole.TheVariants.{First, Exterior, Interior}
 use Rattle.mvt_geometry.specs.declared.shape.Geometry.{Geometry}
 use Rattle.mvt_geometry.specs.declared.shape.Geometry.TheVariants.{Unknown, Points, Lines, Polygons}
 use Rattle.mvt_geometry.specs.declared.shape.Point.{Point}

@@ -5,6 +5,6 @@
 #[cfg(test)]
 mod expect;
 #[cfg(test)]
-mod limits;
+mod slow;
 #[cfg(test)]
 mod tile;

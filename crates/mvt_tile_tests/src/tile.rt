@@ -1,15 +1,13 @@
-//! Known tiles and faults, made tiles, pieces, devices, refused growths.
+//! Known tiles and faults, pieces, devices, refused growths.
 mod devices;
 mod faults;
 mod findings;
-mod linting;
-mod making;
+pub(crate) mod linting;
 mod refused;
 mod refused_rows;
-mod rewriting;
-mod rows;
-mod sizes;
-mod streams;
+pub(crate) mod rows;
+pub(crate) mod sizes;
+pub(crate) mod streams;
 pub(crate) mod support;
 mod surveys;
 mod uses;

@@ -1,13 +1,9 @@
 -- Notes of numbered elements.
-use Rattle.std.proofs.Common.{◌≡◌, ℕ, ◌+◌, ◌<◌, Bool, true, false, cond, eqb, List, [], ◌∷◌, ◌++◌, length, take, get_or, Option, Some, None, refl, sym, ap, ap₂, ◌∙◌, arith, append_assoc, append-nil, length-append, length-take, add-zero, zero-add}
+use Rattle.std.proofs.Common.{◌≡◌, ℕ, ◌+◌, ◌<◌, Bool, true, false, cond, eqb, List, [], ◌∷◌, ◌++◌, length, take, get_or, Option, Some, None, refl, sym, ap, ap₂, ◌∙◌, arith, append_assoc, append-nil, length-take, add-zero, zero-add}
 use Rattle.std.proofs.lemmas.List.{take-append-le, take_all}
 use Rattle.std.specs.List.{position_from}
 use Rattle.std.specs.Option.{option_or}
-use Rattle.std.proofs.lemmas.Grind.{flat_map-append}
 use Rattle.mvt_base.proofs.ListLemmas.{front_more}
-use Rattle.mvt_geometry.specs.declared.shape.Polygon.{Polygon}
-use Rattle.mvt_geometry.specs.declared.shape.Point.{Point}
-use Rattle.mvt_geometry.specs.Shape.{rings_of}
 use Rattle.mvt_tile_value.specs.declared.note.Note.{Note}
 use Rattle.mvt_feature.specs.declared.feature.Feature.{Feature}
 use Rattle.mvt_message.specs.declared.item.Item.{Item}
@@ -40,37 +36,6 @@ noted_more f n xs i x k start old new h is at so_far e =
     e ∙ ap (λ m. old ++ f m x) at ∙ ap (λ ns. ns ++ f (n + i) x) so_far ∙ append_assoc start (numbered f n (take i xs)) (f (n + i) x)
     ∙ ap (λ ns. start ++ ns) (sym more)
 
--- the rings of one polygon more
-pub rings_more : (f : ℕ → List Point → List Note) (polygons : List Polygon) (i : ℕ) (p : Polygon) (count : ℕ)
-    (start old mid new : List Note)
-    → i < length polygons → p ≡ get_or polygons i p
-    → count ≡ length (rings_of (take i polygons)) → old ≡ start ++ numbered f 0 (rings_of (take i polygons)) → mid ≡ old ++ f count p.outer
-    → new ≡ mid ++ numbered f (count + 1) p.rest
-    → new ≡ start ++ numbered f 0 (rings_of (take (i + 1) polygons))
-rings_more f polygons i p count start old mid new h is size so_far e g =
-    let before = rings_of (take i polygons) in
-    let all : rings_of (take (i + 1) polygons) ≡ before ++ (p.outer ∷ p.rest) =
-    ap rings_of (front_more polygons i p h is)
-    ∙ flat_map-append (λ (q : Polygon). q.outer ∷ q.rest) (take i polygons) (p ∷ [])
-    ∙ ap (λ rs. before ++ rs) (append-nil (p.outer ∷ p.rest)) in
-    let more : numbered f 0 (rings_of (take (i + 1) polygons)) ≡ numbered f 0 before ++ (f count p.outer ++ numbered f (count + 1) p.rest) =
-    ap (numbered f 0) all ∙ numbered-append f 0 before (p.outer ∷ p.rest)
-    ∙ ap (λ k. numbered f 0 before ++ numbered f k (p.outer ∷ p.rest)) (let k : 0 + length before ≡ count = omega arith in k) in
-    g ∙ ap (λ ns. ns ++ numbered f (count + 1) p.rest) (e ∙ ap (λ ns. ns ++ f count p.outer) so_far)
-    ∙ append_assoc (start ++ numbered f 0 before) (f count p.outer) (numbered f (count + 1) p.rest)
-    ∙ append_assoc start (numbered f 0 before) (f count p.outer ++ numbered f (count + 1) p.rest)
-    ∙ ap (λ ns. start ++ ns) (sym more)
-
-pub rings_count : (polygons : List Polygon) (i : ℕ) (p : Polygon) (count next : ℕ) → i < length polygons → p ≡ get_or polygons i p
-    → count ≡ length (rings_of (take i polygons)) → next ≡ (count + 1) + length p.rest
-    → next ≡ length (rings_of (take (i + 1) polygons))
-rings_count polygons i p count next h is size e =
-    let all : rings_of (take (i + 1) polygons) ≡ rings_of (take i polygons) ++ (p.outer ∷ p.rest) =
-    ap rings_of (front_more polygons i p h is)
-    ∙ flat_map-append (λ (q : Polygon). q.outer ∷ q.rest) (take i polygons) (p ∷ [])
-    ∙ ap (λ rs. rings_of (take i polygons) ++ rs) (append-nil (p.outer ∷ p.rest)) in
-    omega (arith, ap length all, length-append (rings_of (take i polygons)) (p.outer ∷ p.rest))
-
 -- ids
 
 pub first_more : {A : Type 0} (p : A → Bool) (n : ℕ) (xs : List A) (x : A)
@@ -81,14 +46,6 @@ first_more p n (y ∷ xs) x =
     (first_more p (n + 1) xs x
     ∙ ap (λ k. option_or (position_from p (n + 1) xs) (cond (p x) (Some k) None))
     (let e : (n + 1) + length xs ≡ n + length (y ∷ xs) = omega arith in e))
-
-pub first_of_more : (q : ℕ) (features : List Feature) (i : ℕ) (f : Feature) → i < length features → f ≡ get_or features i f
-    → first_of q (take (i + 1) features) ≡ option_or (first_of q (take i features)) (cond (is_id q f.id) (Some i) None)
-first_of_more q features i f h is =
-    let size : 0 + length (take i features) ≡ i = simp length-take (omega arith) in
-    ap (first_of q) (front_more features i f h is)
-    ∙ first_more (λ (g : Feature). is_id q g.id) 0 (take i features) f
-    ∙ ap (λ k. option_or (first_of q (take i features)) (cond (is_id q f.id) (Some k) None)) size
 
 pub id_noted : (layer n : ℕ) (found other : ℕ → Option ℕ) (id : Option ℕ) → ((q : ℕ) → found q ≡ other q)
     → id_note layer n found id ≡ id_note layer n other id
@@ -141,16 +98,6 @@ noted_last at layer features f n id found old mid new layer_is count is same so_
     (count ∙ sym (zero-add (length features)))
     ∙ ap (λ ns. numbered (feature_notes layer all) 0 features ++ ns) (sym (append-nil (feature_notes layer all (0 + length features) f)))
     ∙ sym (numbered-append (feature_notes layer all) 0 features (f ∷ []))
-
-pub feature_noted : (layer n : ℕ) (features : List Feature) (f : Feature) (found : ℕ → Option ℕ) (old mid new : List Note)
-    → ((q : ℕ) → found q ≡ first_of q (take n features)) → mid ≡ old ++ id_note layer n found f.id
-    → new ≡ mid ++ geometry_notes layer n f.geometry
-    → new ≡ old ++ feature_notes layer features n f
-feature_noted layer n features f found old mid new same e g =
-    g
-    ∙ ap (λ ns. ns ++ geometry_notes layer n f.geometry)
-    (e ∙ ap (λ ns. old ++ ns) (id_noted layer n found (λ q. first_of q (take n features)) f.id same))
-    ∙ append_assoc old (id_note layer n (λ q. first_of q (take n features)) f.id) (geometry_notes layer n f.geometry)
 
 pub all_noted : (tile : Tile) (items : List Item) (start mid new : List Note) (b : Bool) → items ≡ tile.items → start ≡ []
     → b ≡ eqb (length items) 0 → mid ≡ start ++ note_if b NoLayers → new ≡ mid ++ numbered item_notes 0 items → new ≡ notes_of tile

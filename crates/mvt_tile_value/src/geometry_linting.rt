@@ -25,14 +25,14 @@ pub(crate) struct GeometryFinding {
 }
 
 impl GeometryFinding {
-    /// Of the first feature of a layer of this extent.
-    pub(crate) fn new(layer: usize, extent: u32) -> Self
-        ensures { HasNothing layer extent 0 result }
+    /// Of a feature of a layer of this extent.
+    pub(crate) fn new(layer: usize, extent: u32, feature: usize) -> Self
+        ensures { HasNothing layer extent feature result }
     {
         GeometryFinding {
             layer,
             extent,
-            feature: 0,
+            feature,
             found: None,
         }
     }

@@ -1,6 +1,5 @@
 //! What is found of a layer while it is read, one feature after the other.
 ghost use Rattle.std.specs.Prelude.{◌≡◌, ◌∷◌, ◌++◌, ◌+◌, ◌*◌, ℕ, List, [], length, map, slice_get, Some, OnOk};
-ghost use Rattle.std.specs.Option.{option_to_list};
 ghost use Rattle.mvt_attrs.specs.declared.value.Attribute.{Attribute};
 ghost use Rattle.mvt_attrs.specs.Values.{Value as AValue};
 ghost use Rattle.mvt_attrs.specs.Tags.{Names};
@@ -11,7 +10,7 @@ ghost use Rattle.mvt_tile_value.specs.Notes.{numbered};
 
 use crate::finding::Finding;
 use crate::geometry_linting::GeometryFinding;
-use crate::linting::{is_large_id, is_large_value, push_if};
+use crate::linting::{is_large_id, is_large_value, push_found, push_if};
 use mvt_attrs::LayerKeys;
 use mvt_feature::{Scratch, read_value_ref};
 use mvt_message::{LayerVisitor, MessageError};
@@ -40,7 +39,7 @@ impl LayerFindings {
             layer,
             large: Vec::new(alloc),
             count: 0,
-            geometry: GeometryFinding::new(layer, extent),
+            geometry: GeometryFinding::new(layer, extent, 0),
             findings: Vec::new(alloc),
         }
     }
@@ -108,15 +107,6 @@ impl<'a> LayerVisitor<'a> for LayerFindings {
         let known = geometry.add_feature(alloc, payload, payload_at, keys, values, scratch)?;
         Ok(self.add(known.id, scratch.tags())?)
     }
-}
-
-fn push_found(findings: &mut Vec<Finding>, found: Option<Finding>) -> Result<(), AllocError>
-    ensures { OnOk result (findings.new.items ≡ findings.old.items ++ option_to_list found) }
-{
-    if let Some(finding) = found {
-        findings.push(finding)?;
-    }
-    Ok(())
 }
 
 /// Tells the large numbers among the values that these tags name.

@@ -1,16 +1,17 @@
 //! What is found of a layer while it is judged, one feature after the other.
-ghost use Rattle.std.specs.Prelude.{◌≡◌, ◌∷◌, ◌++◌, ℕ, List, [], length, OnOk};
+ghost use Rattle.std.specs.Prelude.{◌≡◌, ◌∷◌, ◌++◌, ℕ, List, [], length, IfOk, OnOk};
 ghost use Rattle.mvt_feature.specs.declared.feature.Feature.{Feature as AFeature};
 ghost use Rattle.mvt_tile_value.specs.Findings.{AreNoted, AreNotedSoFar};
+ghost use Rattle.mvt_tile_value.specs.Notes.{layer_notes};
 ghost use Rattle.mvt_tile_value.specs.Rings.{HasNotedAll};
 
 use crate::first_ids::FirstIds;
 use crate::note::Note;
-use crate::noting::note_id;
+use crate::noting::{note_id, note_if};
 use crate::ring_noting::RingNotes;
 use mvt_attrs::LayerKeys;
-use mvt_feature::{Scratch, judge_value};
-use mvt_geometry::{GeometryVisitor, Point, Ring};
+use mvt_feature::{Feature, Scratch, judge_value};
+use mvt_geometry::{GeometryVisitor, Point, Ring, tell_geometry};
 use mvt_message::{FeatureFields, FeatureVisitor, LayerVisitor, MessageError};
 use std::alloc::{AllocError, Global};
 
@@ -55,6 +56,40 @@ impl LayerNotes {
         self.rings.begin(self.count);
         Ok(())
     }
+
+    /// Adds the next feature, which is a value.
+    fn add_value(&mut self, feature: &Feature) -> Result<(), AllocError>
+        ensures { (layer : ℕ) (features : List AFeature) → AreNotedSoFar layer self.old features
+            → OnOk result (AreNotedSoFar layer self.new (features ++ feature.now ∷ [])) }
+    {
+        tell_geometry(&mut self.rings, &feature.geometry)?;
+        self.add(feature.id)
+    }
+
+    /// Appends the notes of the layer, which has this index, and of its features.
+    pub(crate) fn append_to(&self, layer: usize, notes: &mut Vec<Note>) -> Result<(), AllocError>
+        ensures { (features : List AFeature) → AreNotedSoFar layer self.now features
+            → OnOk result (notes.new.items ≡ notes.old.items ++ layer_notes layer features) }
+    {
+        note_if(notes, self.count == 0, Note::NoFeatures(layer))?;
+        notes.extend_from_slice(&self.notes)?;
+        Ok(())
+    }
+}
+
+/// The notes of a layer's features, which are values.
+pub(crate) fn noted_features(
+    alloc: Global,
+    layer: usize,
+    features: &[Feature],
+) -> Result<LayerNotes, AllocError>
+    ensures { IfOk result (λ noted. AreNotedSoFar layer noted features.now) }
+{
+    let mut noted = LayerNotes::new(alloc, layer);
+    for feature in features {
+        noted.add_value(feature)?;
+    }
+    Ok(noted)
 }
 
 /// Of a layer that is judged alone.

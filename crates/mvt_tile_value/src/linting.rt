@@ -1,15 +1,15 @@
 //! What is found of a tile that viewers stumble over.
-ghost use Rattle.std.specs.Prelude.{◌≡◌, ◌*◌, ◌+◌, ◌++◌, find, IfOk, OnOk, OnErr};
-ghost use Rattle.mvt_geometry.specs.Shape.{joined, rings_of};
+ghost use Rattle.std.specs.Prelude.{◌≡◌, ◌*◌, ◌+◌, ◌++◌, IfOk, OnOk, OnErr};
+ghost use Rattle.std.specs.Option.{option_to_list};
 ghost use Rattle.mvt_tile_value.specs.Notes.{numbered, note_if};
-ghost use Rattle.mvt_tile_value.specs.Lint.{attribute_findings, feature_findings, findings_of, geometry_findings, is_far as the_is_far, is_far_point as the_is_far_point, is_large as the_is_large, is_large_id as the_is_large_id, is_large_value as the_is_large_value, item_findings, layer_findings, positions_of, unknown_finding as the_unknown_finding, widest};
+ghost use Rattle.mvt_tile_value.specs.Lint.{attribute_findings, feature_findings, findings_of, geometry_findings, is_far as the_is_far, is_far_point as the_is_far_point, is_large as the_is_large, is_large_id as the_is_large_id, is_large_value as the_is_large_value, item_findings, layer_findings, unknown_finding as the_unknown_finding, widest};
 
 use crate::finding::Finding;
+use crate::geometry_linting::GeometryFinding;
 use crate::tile::Tile;
 use mvt_attrs::{Attribute, ValueRef};
-use mvt_base::Items;
 use mvt_feature::Feature;
-use mvt_geometry::{Geometry, Point, Polygon};
+use mvt_geometry::{Geometry, Point, tell_geometry};
 use mvt_message::{Item, Layer};
 use std::alloc::{AllocError, Global};
 
@@ -92,12 +92,19 @@ fn lint_geometry(
     ensures { OnOk result (findings.new.items
         ≡ findings.old.items ++ geometry_findings layer extent feature geometry.now) }
 {
-    if let Geometry::Unknown(integers) = geometry {
-        findings.push(unknown_finding(layer, feature, integers.as_slice()))?;
-        return Ok(());
-    }
-    if let Some(point) = far_point(extent, geometry) {
-        findings.push(Finding::FarPoint(layer, feature, point.x, point.y))?;
+    let mut visitor = GeometryFinding::new(layer, extent, feature);
+    tell_geometry(&mut visitor, geometry)?;
+    push_found(findings, visitor.found)
+}
+
+pub(crate) fn push_found(
+    findings: &mut Vec<Finding>,
+    found: Option<Finding>,
+) -> Result<(), AllocError>
+    ensures { OnOk result (findings.new.items ≡ findings.old.items ++ option_to_list found) }
+{
+    if let Some(finding) = found {
+        findings.push(finding)?;
     }
     Ok(())
 }
@@ -144,64 +151,6 @@ pub(crate) fn push_if(
         findings.push(finding)?;
     }
     Ok(())
-}
-
-/// The first position of a geometry that leaves 16 bits.
-fn far_point(extent: u32, geometry: &Geometry) -> Option<Point>
-    ensures { result ≡ find (the_is_far_point extent) (positions_of geometry.now) }
-{
-    match geometry {
-        Geometry::Unknown(_) => None,
-        Geometry::Points(points) => far_of_line(extent, points.as_slice()),
-        Geometry::Lines(lines) => far_of_lines(extent, lines.as_slice()),
-        Geometry::Polygons(polygons) => far_of_polygons(extent, polygons.as_slice()),
-    }
-}
-
-fn far_of_polygons(extent: u32, polygons: &[Polygon]) -> Option<Point>
-    ensures { result ≡ find (the_is_far_point extent) (joined (rings_of polygons.now)) }
-{
-    for polygon in polygons {
-        let found = far_of_rings(extent, polygon);
-        if found.is_some() {
-            return found;
-        }
-    }
-    None
-}
-
-fn far_of_rings(extent: u32, polygon: &Polygon) -> Option<Point>
-    ensures { result ≡ find (the_is_far_point extent)
-        (polygon.now.outer ++ joined polygon.now.rest) }
-{
-    let found = far_of_line(extent, polygon.outer.as_slice());
-    if found.is_some() {
-        return found;
-    }
-    far_of_lines(extent, polygon.rest.as_slice())
-}
-
-fn far_of_lines(extent: u32, lines: &[Items<Point>]) -> Option<Point>
-    ensures { result ≡ find (the_is_far_point extent) (joined lines.now) }
-{
-    for line in lines {
-        let found = far_of_line(extent, line.as_slice());
-        if found.is_some() {
-            return found;
-        }
-    }
-    None
-}
-
-fn far_of_line(extent: u32, points: &[Point]) -> Option<Point>
-    ensures { result ≡ find (the_is_far_point extent) points.now }
-{
-    for point in points {
-        if is_far_point(extent, *point) {
-            return Some(*point);
-        }
-    }
-    None
 }
 
 pub(crate) fn is_far_point(extent: u32, point: Point) -> bool

@@ -28,8 +28,8 @@ use crate::noting::note_if;
 use crate::survey::Survey;
 use mvt_base::{Items, LIMIT};
 use mvt_message::{
-    Item, LayerRewriter, MessageError, NotCanonical, Rewritten, RewrittenLayer, Visited,
-    judge_item, visit_canonical, visit_version_2,
+    Item, LayerRewriter, MessageError, Rewritten, RewrittenLayer, Unsure, Visited, judge_item,
+    visit_canonical, visit_version_2,
 };
 use std::alloc::{AllocError, Global};
 
@@ -94,13 +94,13 @@ impl<'a> SurveyBuilder<'a> {
                 self.add_canonical(alloc, index, payload, &noted)?;
                 Ok(Some(name))
             }
-            Err(NotCanonical::Memory) => Err(MessageError::Memory),
-            Err(NotCanonical::Broken) => {
+            Err(Unsure::Memory) => Err(MessageError::Memory),
+            Err(Unsure::SeemsBroken) => {
                 // Judging tells the fault in less time than rewriting up to it.
                 judge_item(alloc, payload, payload_at, tag_at)?;
                 self.add_rewritten(alloc, index, payload, payload_at, tag_at)
             }
-            Err(NotCanonical::Other) => {
+            Err(Unsure::Undecided) => {
                 self.add_rewritten(alloc, index, payload, payload_at, tag_at)
             }
         }
@@ -241,9 +241,9 @@ impl<'a> SurveyBuilder<'a> {
         ensures few { noted.now.count < 2 ^ 64 }
         ensures left { self.new.left ≡ self.old.left }
     {
-        note_if(&mut self.notes, noted.count == 0, Note::NoFeatures(index))?;
-        self.notes.extend_from_slice(&noted.notes)?;
-        self.features += noted.count as u128;
+        let count = noted.count as u128;
+        noted.append_to(index, &mut self.notes)?;
+        self.features += count;
         Ok(())
     }
 
@@ -290,7 +290,7 @@ fn canonical_notes<'b>(
     alloc: Global,
     index: usize,
     payload: &'b [u8],
-) -> Result<(&'b str, LayerNotes), NotCanonical>
+) -> Result<(&'b str, LayerNotes), Unsure>
     requires { length payload.now ≤ LIMIT }
     ensures { (items : List Item) → length items ≡ index
         → IfOk result (λ found. IsNotedLayer index payload.now found.0.now found.1) }

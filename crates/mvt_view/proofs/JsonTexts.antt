@@ -30,9 +30,6 @@ pub each_text : {A : Type 0} (f : A → Data) (x : A) (xs : List A)
     → compact_text (each f (x ∷ xs)) ≡ codes "[" ++ (compact_text (f x) ++ (flat_map (λ y. 44 ∷ compact_text (f y)) xs ++ codes "]"))
 each_text f x xs = ap (λ t. 91 ∷ (compact_text (f x) ++ t)) (more_text f xs)
 
-pub none_text : {A : Type 0} (f : A → Data) → compact_text (each f []) ≡ codes "[]"
-none_text f = refl
-
 pub point_text : (p : Point) → compact_text (point_json p) ≡ 91 ∷ (signed_decimal p.x ++ (44 ∷ (signed_decimal p.y ++ codes "]")))
 point_text p = ap₂ (λ x y. 91 ∷ (x ++ (44 ∷ (y ++ codes "]")))) (integer_text p.x) (integer_text p.y)
 

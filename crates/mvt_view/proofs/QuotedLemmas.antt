@@ -2,7 +2,7 @@
 use Rattle.std.proofs.Common.{◌≡◌, ◌∙◌, ℕ, List, [], ◌∷◌, ◌++◌, true, false, ◌&&◌, codes, refl, sym, ap, ap₂, ◌+◌, ◌-◌, ◌/◌, ◌%◌, ◌≤◌, ◌<◌, length, take, drop, get_or, append_assoc, append-nil, drop-drop, arith}
 use Rattle.std.proofs.lemmas.Bool.{and_parts}
 use Rattle.std.proofs.lemmas.Grind.{common_steps, flat_map-append}
-use Rattle.std.proofs.lemmas.List.{take-append-drop, take-take, drop-take, drop_all, at_drop_more}
+use Rattle.std.proofs.lemmas.List.{take-append-drop, take-take, drop-take, at_drop_more}
 use Rattle.std.specs.Char.{digit_char}
 use Rattle.std.specs.List.{list_all}
 use Rattle.mvt_base.specs.Related.{Extends}
@@ -63,9 +63,6 @@ extends_none a = ([], sym (append-nil a))
 
 pub extends_by : (a b c more : List ℕ) → Extends a b → c ≡ b ++ more → Extends a c
 extends_by a b c more h is = (h.0 ++ more, is ∙ ap (λ l. l ++ more) h.1 ∙ append_assoc a h.0 more)
-
-pub extends_on : (a b c : List ℕ) → Extends a b → Extends b c → Extends a c
-extends_on a b c h k = extends_by a b c k.0 h k.1
 
 -- what is appended, and what is still to come
 abbrev pub HasCome : List ℕ → List ℕ → List ℕ → ℕ → Type 0

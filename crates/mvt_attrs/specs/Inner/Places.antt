@@ -1,5 +1,10 @@
 -- Places of entries that stand once each.
-use Rattle.std.specs.Prelude.{◌≡◌, ◌+◌, ◌<◌, ◌≤◌, ℕ, List, length, slice_index}
+use Rattle.std.specs.Prelude.{◌≡◌, ◌+◌, ◌<◌, ◌≤◌, ◌++◌, ℕ, List, [], ◌∷◌, Contains, length, slice_index}
+
+-- what placing x promises of a pool
+pub record IsPut {A : Type 0} (pool after : List A) (x : A) : Type 0 where
+  pub kept : Contains pool x → after ≡ pool
+  pub added : (Contains pool x → ⊥) → after ≡ pool ++ x ∷ []
 
 -- the numbers below n, in order
 pub record AreIndices (places : List ℕ) (n : ℕ) : Type 0 where

@@ -15,7 +15,7 @@ use std::alloc::Global;
 
 /// How many parts and how many points there are, and how many there is room for.
 #[derive(Clone, Copy)]
-pub(super) struct Drawn {
+pub(super) struct Mark {
     parts: usize,
     points: usize,
     parts_room: usize,
@@ -53,7 +53,7 @@ impl Table {
         ensures points { OnErr result (length self.new.points ≤ length self.old.points) }
         ensures same { keys.new ≡ keys.old }
     {
-        let before = self.drawn();
+        let before = self.mark();
         match draw_usual_feature(alloc, self, payload, payload_at, keys, values, scratch) {
             Ok(Some(known)) => return Ok(known),
             Ok(None) => self.forget_behind(before),
@@ -72,11 +72,11 @@ impl Table {
     }
 
     /// What there is before a feature.
-    pub(super) fn drawn(&self) -> Drawn
+    pub(super) fn mark(&self) -> Mark
         ensures parts { result.parts ≡ length self.now.parts }
         ensures points { result.points ≡ length self.now.points }
     {
-        Drawn {
+        Mark {
             parts: self.parts.len(),
             points: self.points.len(),
             parts_room: self.parts.capacity(),
@@ -86,7 +86,7 @@ impl Table {
 
     /// Drops the parts and the points that were added since, and gives back the memory that they
     /// took.
-    pub(super) fn forget_behind(&mut self, before: Drawn)
+    pub(super) fn forget_behind(&mut self, before: Mark)
         ensures { self.new ≡ record self.old {
           parts = take before.parts self.old.parts;
           points = take before.points self.old.points;

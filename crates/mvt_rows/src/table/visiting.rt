@@ -1,5 +1,5 @@
 //! The rows of a tile straight from its bytes.
-ghost use Rattle.std.specs.Prelude.{◌≡◌, ◌≤◌, [], None, IfOk, IfErr, IfSome, MatchOption, OnOk};
+ghost use Rattle.std.specs.Prelude.{◌≡◌, ◌<◌, ◌≤◌, [], None, IfOk, IfErr, IfSome, MatchOption, OnErr, OnOk};
 ghost use Rattle.mvt_base.specs.declared.TheConstants.{LIMIT};
 ghost use Rattle.mvt_tile.specs.NamedLayer.{first_in, named_fault};
 ghost use Rattle.mvt_tile.specs.Streams.{ReportsAtEnd};
@@ -109,7 +109,8 @@ impl RowsVisitor {
 
     /// Out of memory if the lists have more bytes than they shall.
     fn keep_within(&self) -> Result<(), AllocError>
-        ensures { OnOk result (table_size self.now.table ≤ self.now.most) }
+        ensures within { OnOk result (table_size self.now.table ≤ self.now.most) }
+        ensures past { OnErr result (self.now.most < table_size self.now.table) }
     {
         if self.table.is_within(self.most) {
             return Ok(());
@@ -199,7 +200,7 @@ impl<'a> LayerVisitor<'a> for RowsVisitor {
         scratch: &mut Scratch,
     ) -> Result<(), MessageError> {
         let opened = self.table.places();
-        let before = self.table.drawn();
+        let before = self.table.mark();
         let table = &mut self.table;
         let known = table.add_drawing(alloc, payload, payload_at, keys, values, scratch)?;
         match self.table.add_feature_row(scratch.tags(), known, opened) {

@@ -61,15 +61,15 @@ pub(crate) fn append_row_geometry(
     }
     let parts = part(rows.parts, row.parts, work)?;
     match row.kind {
-        1 => draw_points(rows.points, parts, work, integers),
-        2 => draw_lines(rows.points, parts, work, integers),
-        3 => draw_polygons(rows.points, parts, work, integers),
+        1 => write_points(rows.points, parts, work, integers),
+        2 => write_lines(rows.points, parts, work, integers),
+        3 => write_polygons(rows.points, parts, work, integers),
         _ => Err(RowPartError::NoPart),
     }
 }
 
-/// Draws all points of a feature, which are one part.
-fn draw_points(
+/// Writes all points of a feature, which are one part.
+fn write_points(
     points: &[PointRow],
     rows: &[PartRow],
     work: &mut Work,
@@ -91,7 +91,7 @@ fn draw_points(
     }
 }
 
-fn draw_lines(
+fn write_lines(
     points: &[PointRow],
     rows: &[PartRow],
     work: &mut Work,
@@ -105,7 +105,7 @@ fn draw_lines(
     let mut cursor = Ok(ORIGIN);
     for (index, row) in rows.iter().enumerate() {
         let line = part(points, row.points, work)?;
-        cursor = draw_line(integers, index, cursor, line)?;
+        cursor = write_line(integers, index, cursor, line)?;
     }
     if rows.is_empty() {
         return Ok(Err(Undrawn::of_part(0, DrawingRule::EndsEarly)));
@@ -116,9 +116,9 @@ fn draw_lines(
     }
 }
 
-/// Draws one line more, of this index. In place of a cursor there is the rule that a line broke,
+/// Writes one line more, of this index. In place of a cursor there is the rule that a line broke,
 /// from where one can't be drawn.
-fn draw_line(
+fn write_line(
     integers: &mut PackedNumbers,
     index: usize,
     cursor: Result<Point, Undrawn>,
@@ -141,7 +141,7 @@ fn draw_line(
     }
 }
 
-fn draw_polygons(
+fn write_polygons(
     points: &[PointRow],
     rows: &[PartRow],
     work: &mut Work,
@@ -159,7 +159,7 @@ fn draw_polygons(
         let Some(role) = role_of(row, begun) else {
             return Err(RowPartError::NoPart);
         };
-        cursor = draw_ring(integers, index, cursor, ring, role)?;
+        cursor = write_ring(integers, index, cursor, ring, role)?;
         begun = true;
     }
     if !begun {
@@ -183,9 +183,9 @@ fn role_of(row: &PartRow, begun: bool) -> Option<RingRole>
     }
 }
 
-/// Draws one ring more, of this index. In place of a cursor there is the rule that a ring broke,
+/// Writes one ring more, of this index. In place of a cursor there is the rule that a ring broke,
 /// from where one can't be drawn.
-fn draw_ring(
+fn write_ring(
     integers: &mut PackedNumbers,
     index: usize,
     cursor: Result<Point, Undrawn>,

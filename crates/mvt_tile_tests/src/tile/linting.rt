@@ -1,15 +1,12 @@
 //! What is found of bytes, beside what is found of the tile that they are: tiles that have each
-//! finding, with each of their bytes changed, and tiles by a seed; 4,000 in all.
-use super::making::{EXTENT_FIRST, FEATURES_LAST, Order, Random, changed, make_tile};
+//! finding, with each of their bytes changed.
 use super::rows::KINDS_CANONICAL;
 use super::support::reader_of;
-use super::surveys::changed as changed_at;
+use super::surveys::changed;
 use crate::expect::{expect, expect_eq};
 use mvt_tile::{DecodeError, Finding, decode, lint, lint_bytes, lint_tile};
 use std::alloc::Global;
 use std::process::Abort;
-
-const TILES: u32 = 1_000;
 
 // A layer `b` with a point that is far in an extent of 4096; a layer of version 1; a layer `a` of
 // extent 1, whose features have each finding of one; a layer `c` of extent 0.
@@ -56,7 +53,7 @@ fn told_by_value(alloc: Global, input: &[u8]) -> Result<Vec<Finding>, DecodeErro
 }
 
 // The bytes, and a reader of them, have the findings of the tile or its fault.
-fn expect_same(rt: &(impl Abort + AllocGlobal), input: &[u8]) {
+pub(crate) fn expect_same(rt: &(impl Abort + AllocGlobal), input: &[u8]) {
     let expected = told_by_value(rt.alloc(), input);
     let found = lint_bytes(rt.alloc(), input);
     expect!(rt; found == expected);
@@ -73,7 +70,7 @@ fn expect_same_changed(rt: &(impl Abort + AllocGlobal), input: &[u8]) {
     expect_same(rt, input);
     for at in 0..input.len() {
         for way in 0..3u8 {
-            let bytes = changed_at(rt.alloc(), input, at, way).expect(rt, "bytes");
+            let bytes = changed(rt.alloc(), input, at, way).expect(rt, "bytes");
             expect_same(rt, &bytes);
             drop(bytes);
         }
@@ -84,29 +81,6 @@ fn expect_same_changed(rt: &(impl Abort + AllocGlobal), input: &[u8]) {
 fn bytes_have_the_findings_of_the_tile(rt: HostRuntime) {
     expect_same_changed(&rt, FOUND);
     expect_same_changed(&rt, KINDS_CANONICAL);
-}
-
-// A tile as it is made, and with one of its bytes changed.
-fn expect_order(rt: &(impl Abort + AllocGlobal), seed: u64, order: &Order) {
-    let mut random = Random::new(seed);
-    for _ in 0..TILES {
-        let tile = make_tile(rt.alloc(), &mut random, order).expect(rt, "a tile");
-        expect_same(rt, &tile);
-        let other = changed(rt.alloc(), &mut random, &tile).expect(rt, "bytes");
-        drop(tile);
-        expect_same(rt, &other);
-        drop(other);
-    }
-}
-
-#[test]
-fn bytes_have_the_findings_with_the_extent_first(rt: HostRuntime) {
-    expect_order(&rt, 7, &EXTENT_FIRST);
-}
-
-#[test]
-fn bytes_have_the_findings_with_the_features_last(rt: HostRuntime) {
-    expect_order(&rt, 8, &FEATURES_LAST);
 }
 
 // A refused growth is told, and a fault is never told in place of it.

@@ -1,6 +1,6 @@
 //! Tiles of the sizes at which code could turn: none, one and two of a kind, around each bound up
 //! to which entries are compared one by one, and many. With ample memory each call answers.
-use super::support::{KEYS, expect_tile, layer_a, named, names, one_feature, points, reader_of};
+use super::support::{expect_tile, layer_a, names, one_feature, points, reader_of};
 use crate::expect::{expect, expect_eq};
 use mvt_attrs::{Attribute, Value};
 use mvt_base::{Items, Text};
@@ -8,15 +8,15 @@ use mvt_geometry::{Geometry, Point, Polygon};
 use mvt_io::MemorySink;
 use mvt_message::{Feature, Item, Layer};
 use mvt_tile::{
-    NamedLayers, Tile, decode, encode, extract, extract_bytes, extract_tile, is_valid, notes,
-    read_tile, validate, write_tile,
+    NamedLayers, Tile, encode, extract, extract_bytes, extract_tile, is_valid, notes, read_tile,
+    write_tile,
 };
 use std::process::Abort;
 
-const COUNTS: [u32; 15] = [0, 1, 2, 7, 8, 9, 16, 17, 32, 33, 34, 48, 49, 100, 1000];
+pub(crate) const COUNTS: [u32; 15] = [0, 1, 2, 7, 8, 9, 16, 17, 32, 33, 34, 48, 49, 100, 1000];
 
 // A tile, which is let go, is written and read by each call.
-fn expect_answers(rt: &(impl Abort + AllocGlobal), tile: Tile) {
+pub(crate) fn expect_answers(rt: &(impl Abort + AllocGlobal), tile: Tile) {
     expect!(rt; is_valid(&tile));
     let bytes = encode(rt.alloc(), &tile).expect(rt, "bytes");
     expect_tile(rt, &bytes, &tile, &bytes);
@@ -94,7 +94,7 @@ fn point(rt: &(impl Abort + AllocGlobal)) -> Geometry {
 }
 
 // A text that begins with a number, and is so many bytes long or longer.
-fn text_of(rt: &(impl Abort + AllocGlobal), number: u32, len: u32) -> Text {
+pub(crate) fn text_of(rt: &(impl Abort + AllocGlobal), number: u32, len: u32) -> Text {
     let mut text = format!(in rt.alloc(); "{number}").expect(rt, "a text");
     for _ in 0..len {
         text.push_str("x").expect(rt, "a text");
@@ -103,7 +103,7 @@ fn text_of(rt: &(impl Abort + AllocGlobal), number: u32, len: u32) -> Text {
 }
 
 // A feature with so many attributes, each with a key and a value of its own.
-fn keyed(rt: &(impl Abort + AllocGlobal), count: u32) -> Feature {
+pub(crate) fn keyed(rt: &(impl Abort + AllocGlobal), count: u32) -> Feature {
     let mut attributes = Vec::new(rt.alloc());
     for number in 0..count {
         let key = text_of(rt, number, 0);
@@ -119,7 +119,7 @@ fn keyed(rt: &(impl Abort + AllocGlobal), count: u32) -> Feature {
     }
 }
 
-fn one_layer(rt: &(impl Abort + AllocGlobal), features: Vec<Feature>) -> Tile {
+pub(crate) fn one_layer(rt: &(impl Abort + AllocGlobal), features: Vec<Feature>) -> Tile {
     layer_a(rt.alloc(), features).expect(rt, "a tile")
 }
 
@@ -133,40 +133,6 @@ fn features(rt: &(impl Abort + AllocGlobal), count: u32) -> Vec<Feature> {
 }
 
 #[test]
-fn takes_any_number_of_attributes(rt: HostRuntime) {
-    for count in COUNTS {
-        let features = vec![in rt.alloc(); keyed(&rt, count), keyed(&rt, 2)];
-        expect_answers(&rt, one_layer(&rt, features.expect(&rt, "features")));
-    }
-}
-
-// A tile is made, read again and written to a writer.
-fn expect_round_trip(rt: &(impl Abort + AllocGlobal), tile: &Tile) {
-    let valid = validate(rt.alloc(), tile).expect(rt, "an answer");
-    expect!(rt; valid);
-    let bytes = encode(rt.alloc(), tile).expect(rt, "bytes");
-    let read = decode(rt.alloc(), &bytes).expect(rt, "a tile");
-    expect!(rt; read == *tile);
-    drop(read);
-    let made = MemorySink::new(rt.alloc(), bytes.len(), bytes.len(), u64::MAX, false);
-    let mut writer = made.expect(rt, "a writer");
-    expect_eq!(rt; write_tile(rt.alloc(), tile, &mut writer), Ok(()));
-    expect!(rt; writer.taken() == bytes.as_slice());
-    drop(writer);
-    drop(bytes);
-}
-
-#[test]
-fn takes_more_attributes_than_two_bytes_count(rt: HostRuntime) {
-    for count in [65_536, 65_537, 70_000] {
-        let features = vec![in rt.alloc(); keyed(&rt, count), keyed(&rt, 2)];
-        let tile = one_layer(&rt, features.expect(&rt, "features"));
-        expect_round_trip(&rt, &tile);
-        drop(tile);
-    }
-}
-
-#[test]
 fn takes_any_number_of_features(rt: HostRuntime) {
     for count in COUNTS {
         expect_answers(&rt, one_layer(&rt, features(&rt, count)));
@@ -174,32 +140,12 @@ fn takes_any_number_of_features(rt: HostRuntime) {
 }
 
 // A layer without features.
-fn layer(rt: &(impl Abort + AllocGlobal), name: Text, extent: u32) -> Item {
+pub(crate) fn layer(rt: &(impl Abort + AllocGlobal), name: Text, extent: u32) -> Item {
     Item::Layer(Layer {
         name,
         extent,
         features: Items::new(Vec::new(rt.alloc())),
     })
-}
-
-fn layers(rt: &(impl Abort + AllocGlobal), count: u32) -> Tile {
-    let mut items = Vec::new(rt.alloc());
-    for number in 0..count {
-        items
-            .push(layer(rt, text_of(rt, number, 0), 4096))
-            .expect(rt, "layers");
-    }
-    Tile {
-        items: Items::new(items),
-    }
-}
-
-#[test]
-fn takes_any_number_of_layers(rt: HostRuntime) {
-    for count in COUNTS {
-        expect_answers(&rt, layers(&rt, count));
-    }
-    expect_answers(&rt, named(rt.alloc(), &KEYS).expect(&rt, "layers"));
 }
 
 fn one_item(rt: &(impl Abort + AllocGlobal), item: Item) -> Tile {

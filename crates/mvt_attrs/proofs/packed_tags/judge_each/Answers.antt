@@ -32,7 +32,7 @@ loop-rest-preserved g c =
           c.loop-rest.rest.now (lent c.args.texts.now) c.args.first_indices.now c.loop-rest.named_by c.args.feature c.args.values
           c.loop-rest.is_short c.mark.result pair so_far c.in-Some.ensures named c.if-pair-values.false c.mark.ensures.new
           c.if-not-mark.false c.requires.grouped room
-          (c.in_ok-visit_pair.ensures c.args.visitor.now so_far.tags so_far.told c.if-not-branch.false));
+          (c.in_ok-visit_pair.ensures.told c.args.visitor.now so_far.tags so_far.told c.if-not-branch.false));
       room = omega (arith, room, c.mark.auto.named_by);
       below =
           subst (λ ms. AreBelow ms (c.args.feature + 1)) (sym c.mark.ensures.marked)

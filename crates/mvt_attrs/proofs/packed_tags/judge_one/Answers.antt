@@ -6,7 +6,7 @@ pub returns : goal.returns
 returns g c = λ bytes front. record {
   tags = c.args.pair.now.key ∷ (c.args.pair.now.value ∷ []);
   packed = front.joins [] c.requires;
-  told = c.in_ok-visit_pair.ensures c.args.visitor.now [] (g.met.V.TagVisitor.begins c.args.visitor.now) c.if-not-branch.false;
+  told = c.in_ok-visit_pair.ensures.told c.args.visitor.now [] (g.met.V.TagVisitor.begins c.args.visitor.now) c.if-not-branch.false;
   faultless = c.in-Ok.ensures.ok;
   short = λ is.
       front.short is ∙ ap (λ r. short c.args.pair.now.key ++ (short c.args.pair.now.value ++ r)) c.requires;

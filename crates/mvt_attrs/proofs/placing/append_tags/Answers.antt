@@ -6,7 +6,8 @@ use Rattle.mvt_attrs.specs.Values.{equal_values}
 use Rattle.std.proofs.lemmas.Slice.Eq.{bytes_eq-Decides}
 use Rattle.mvt_attrs.proofs.EqualityLemmas.{equal_values-Decides}
 use Rattle.mvt_base.proofs.ResultLemmas.{on_err}
-use Rattle.mvt_attrs.proofs.PlacingLemmas.{IsPut, pool_none, pool_more, pool_longer, names_more, names_none, pool_passes, keys_more, values_more, not_full_at, contains_at, reported_tags, not_longer, all_places, all_named, tags_left_at}
+use Rattle.mvt_attrs.specs.Inner.Places.{IsPut}
+use Rattle.mvt_attrs.proofs.PlacingLemmas.{pool_none, pool_more, pool_longer, names_more, names_none, pool_passes, keys_more, values_more, not_full_at, contains_at, reported_tags, not_longer, all_places, all_named, tags_left_at}
 use Rattle.mvt_attrs.proofs.placing.append_tags.Goals as goal
 
 pub loop-attribute-init : goal.loop-attribute-init

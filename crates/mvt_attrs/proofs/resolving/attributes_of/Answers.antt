@@ -2,11 +2,10 @@ use Rattle.std.proofs.Common.{◌≡◌, [], ◌∷◌, ◌++◌, get_or, sym, a
 use Rattle.std.proofs.lemmas.List.{take_rest}
 use Rattle.std.proofs.lemmas.Option.{slice_get_within}
 use Rattle.mvt_base.specs.Related.{AreRelated}
-use Rattle.mvt_attrs.specs.Tags.{Resolved}
+use Rattle.mvt_attrs.specs.Tags.{Resolved, NamesOne}
 use Rattle.mvt_attrs.specs.TagRules.{pairs_of}
 use Rattle.mvt_attrs.proofs.JudgingLemmas.{named_front, named_none, here_is}
 use Rattle.mvt_attrs.proofs.ResolvedLemmas.{there_law, related_from_names}
-use Rattle.mvt_attrs.proofs.TagLemmas.{NamesOne}
 use Rattle.mvt_attrs.proofs.resolving.attributes_of.Goals as goal
 
 pub loop-rest-init : goal.loop-rest-init

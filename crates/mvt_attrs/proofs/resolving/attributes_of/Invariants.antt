@@ -1,9 +1,8 @@
 use Rattle.std.proofs.Common.{List, ◌++◌, length}
 use Rattle.mvt_base.specs.Related.{AreRelated}
 use Rattle.mvt_attrs.specs.declared.value.Attribute.{Attribute}
-use Rattle.mvt_attrs.specs.Tags.{Resolved}
+use Rattle.mvt_attrs.specs.Tags.{Resolved, NamesOne}
 use Rattle.mvt_attrs.specs.TagRules.{pairs_of}
-use Rattle.mvt_attrs.proofs.TagLemmas.{NamesOne}
 use Rattle.mvt_attrs.proofs.resolving.attributes_of.Given as goal
 
 abbrev pub invariant-loop-rest : goal.invariant-loop-rest

@@ -1,19 +1,17 @@
-use Rattle.std.proofs.Common.{◌∙◌}
+use Rattle.std.proofs.Common.{◌++◌, ◌∷◌, [], ap, ◌∙◌}
 use Rattle.std.proofs.lemmas.Result.{on_ok_weaker}
-use Rattle.mvt_feature.proofs.RewritingLemmas.{packed_written}
+use Rattle.mvt_wire.specs.Field.{bytes}
+use Rattle.mvt_wire.specs.Spelling.{spelled}
+use Rattle.mvt_feature.specs.declared.numbers.feature.TheConstants.{GEOMETRY}
+use Rattle.mvt_feature.specs.Canonical.{plain, id_fields, type_fields}
+use Rattle.mvt_feature.proofs.CanonicalLemmas.{tags_packed}
 use Rattle.mvt_feature.proofs.rewriting.append_usual.Goals as goal
 
-pub returns-clause-rewritten : goal.returns-clause-rewritten
-returns-clause-rewritten c = λ keys held f uses id resolved integers short draws.
+pub returns-then-is_same-clause-ok : goal.returns-then-is_same-clause-ok
+returns-then-is_same-clause-ok c = λ same.
     let parts = c.args.parts.now in
-    on_ok_weaker c.append_packed.result
-    (λ grown. packed_written f c.args.uses.now c.use_tags.new.uses c.args.out.now.items c.append_packed.new.out.items parts.id
-    c.deref.result.now parts.kind integers parts.integers.now
-    (c.in_ok-use_tags.ensures.used keys held f.attributes uses resolved.named) id
-    (c.deref.ensures.value ∙ c.in_ok-use_tags.ensures.tags keys held f.attributes uses resolved.named) short draws grown)
-    c.append_packed.ensures.ok
-
-pub returns-clause-uses : goal.returns-clause-uses
-returns-clause-uses c = λ keys held f uses resolved.
-    on_ok_weaker c.append_packed.result (λ _. c.in_ok-use_tags.ensures.uses keys held f.attributes uses resolved.named)
-    c.append_packed.ensures.ok
+    on_ok_weaker c.append_parts.result
+    (λ grown. grown ∙ ap (λ ts. c.args.out.now.items ++ spelled (id_fields parts.id
+    ++ (ts ++ (type_fields parts.kind ++ plain GEOMETRY (bytes parts.integers.now) ∷ []))))
+    (tags_packed c.args.tags.now parts.tags.now (same c.if-is_same.true)))
+    c.append_parts.ensures.ok

@@ -1,5 +1,5 @@
 -- What `append_tags` says of the pools is said of what is used, since no key and no value was added.
-use Rattle.std.proofs.Common.{◌≡◌, ◌⊎◌, ◌<◌, ℕ, List, ◌++◌, length, take, OnErr, OnOk}
+use Rattle.std.proofs.Common.{◌≡◌, ◌⊎◌, ◌<◌, ℕ, List, [], ◌++◌, length, refl, take, OnErr, OnOk}
 use Rattle.mvt_base.specs.declared.TheConstants.{LIMIT}
 use Rattle.mvt_attrs.specs.Values.{Value}
 use Rattle.mvt_attrs.specs.declared.used_entries.LayerEntries.{LayerEntries}
@@ -9,27 +9,34 @@ use Rattle.mvt_attrs.specs.TagPlaces.{tags_in}
 use Rattle.mvt_attrs.specs.Tags.{Names}
 use Rattle.mvt_attrs.specs.Using.{HasNoneAdded, used_of}
 use Rattle.mvt_attrs.proofs.AppendedLemmas.{apart_after, of_used, used_by}
+use Rattle.mvt_attrs.proofs.UsesLemmas.{none_added, placed_again}
 use Rattle.mvt_attrs.proofs.used_entries.LayerEntries.append_attributes.Goals as goal
 
 abbrev after : goal.After-append_tags → LayerEntries
 after c = record {
   keys = record c.args.self.now.keys { distinct = c.append_tags.new.keys };
   values = record c.args.self.now.values { distinct = c.append_tags.new.values };
+  tags = c.args.self.now.tags;
+  are_same = c.args.self.now.are_same;
 }
 
 seen : (c : goal.After-append_tags) → HasNoneAdded c.args.self.now
     → (P : List (List ℕ) → List (List ℕ) → List Value → List Value → Type 0)
     → P c.args.self.now.keys.distinct c.append_tags.new.keys c.args.self.now.values.distinct c.append_tags.new.values
     → P (used_of c.args.self.now.keys) (used_of (after c).keys) (used_of c.args.self.now.values) (used_of (after c).values)
-seen c uses = of_used c.args.self.now (after c) uses uses.0.no_places uses.1.no_places
+seen c uses = of_used c.args.self.now (after c) uses refl refl refl refl
 
 pub returns-clause-uses : goal.returns-clause-uses
 returns-clause-uses c = λ uses.
     let e = c.append_tags.ensures in
     let apart = apart_after c.append_tags.result c.args.attributes.now c.args.self.now.keys.distinct c.append_tags.new.keys
-    c.args.self.now.values.distinct c.append_tags.new.values e.keys e.values e.left in (
-      record { apart = apart.0; no_places = uses.0.no_places; no_marks = uses.0.no_marks; no_used = uses.0.no_used },
-      record { apart = apart.1; no_places = uses.1.no_places; no_marks = uses.1.no_marks; no_used = uses.1.no_used },
+    c.args.self.now.values.distinct c.append_tags.new.values e.keys e.values e.left in
+    let (keys_placed, keys) = none_added c.args.self.now.keys uses.0 in
+    let (values_placed, values) = none_added c.args.self.now.values uses.1 in (
+      placed_again _ _ _ _ _ [] keys_placed
+          (record { apart = apart.0; no_places = keys.no_places; no_marks = keys.no_marks; no_used = keys.no_used }),
+      placed_again _ _ _ _ _ [] values_placed
+          (record { apart = apart.1; no_places = values.no_places; no_marks = values.no_marks; no_used = values.no_used }),
     )
 
 pub returns-clause-used : goal.returns-clause-used

@@ -20,18 +20,7 @@ loop-rest-preserved c = record {
       used_step keys values attributes c.args.self.now c.args.out.now.items rest _ c.loop-rest.self _ c.loop-rest.out.items
       c.push_pair.new.tags.items c.in_ok-key.key c.in_ok-value.value so_far c.in-len2-up.len_at_least (take_rest rest 2)
       (c.in_ok-key.ensures.uses keys so_far.uses.0, c.in_ok-value.ensures.uses values so_far.uses.1)
-      (λ x at. (
-        record { kept = c.in_ok-key.ensures.kept keys x so_far.uses.0 at; added = c.in_ok-key.ensures.added keys x so_far.uses.0 at },
-        c.in_ok-key.ensures.index keys x so_far.uses.0 at,
-      ))
-      (λ x at. (
-        record {
-          kept = c.in_ok-value.ensures.kept values x so_far.uses.1 at;
-          added = c.in_ok-value.ensures.added values x so_far.uses.1
-              at;
-        },
-        c.in_ok-value.ensures.index values x so_far.uses.1 at,
-      ))
+      (λ x at. c.in_ok-key.ensures.put keys x so_far.uses.0 at) (λ x at. c.in_ok-value.ensures.put values x so_far.uses.1 at)
       c.in_ok-push_pair.ensures.items;
   more = c.loop-rest.invariant.more ++ c.in_ok-key.key ∷ c.in_ok-value.value ∷ [];
   left = c.in_ok-push_pair.ensures.items

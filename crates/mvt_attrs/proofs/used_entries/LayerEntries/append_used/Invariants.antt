@@ -3,7 +3,7 @@ use Rattle.mvt_attrs.specs.declared.value.Attribute.{Attribute}
 use Rattle.mvt_attrs.specs.Values.{Value}
 use Rattle.mvt_attrs.specs.Tags.{Names}
 use Rattle.mvt_attrs.specs.Using.{HasUses}
-use Rattle.mvt_attrs.proofs.UsesLemmas.{UsedSoFar}
+use Rattle.mvt_attrs.specs.Inner.UsedTags.{UsedSoFar}
 use Rattle.mvt_attrs.proofs.used_entries.LayerEntries.append_used.Given as goal
 
 abbrev pub invariant-loop-rest : goal.invariant-loop-rest

@@ -10,7 +10,7 @@ returns-in-Ok-clause-feature c = λ held are.
     let told = rw c.in-Ok-None.field-0-is at c.in-Ok-None.ensures.told in
     let same : c.forget_behind.new.self ≡ start =
     c.forget_behind.ensures
-    ∙ ap₂ (λ p q. let t : Table = record now { parts = take p now.parts; points = take q now.points } in t) c.drawn-before.ensures.parts
-    c.drawn-before.ensures.points
+    ∙ ap₂ (λ p q. let t : Table = record now { parts = take p now.parts; points = take q now.points } in t) c.mark-before.ensures.parts
+    c.mark-before.ensures.points
     ∙ dropped start told.0 told.1 now told.2 in
     rw (c.draw_usual_feature.ensures.same, same) at (c.in-Ok.ensures.feature held are)

@@ -19,4 +19,4 @@ returns c = λ given values has.
       record { opened = has.1.0; even = refl; rows = added ∙ ap (λ t. fold with_key t keys) has.1.1 },
       has.2,
     ))
-    c.keep_within.ensures
+    c.keep_within.ensures.within

@@ -74,7 +74,7 @@ returns-in_ok-from_str-in-Ok-Layer-clause-item c = λ most payloads items are.
       (
         subst (λ t. AreItemRows t (items ++ ALayer layer ∷ [])) (sym added) ended.1,
         item_read before _ payloads items payload (ALayer layer) are.1 (added ∙ read),
-        is_within most _ has.2.2 c.in_ok-keep_within-in-Ok-Layer.ensures,
+        is_within most _ has.2.2 c.in_ok-keep_within-in-Ok-Layer.ensures.within,
       ),
     )
 
@@ -106,6 +106,6 @@ returns-in_ok-keep_within-in-Ok-Foreign-clause-item c = λ most payloads items a
       (
         subst (λ t. AreItemRows t (items ++ AForeign number content ∷ [])) (sym added) ended.0,
         item_read before _ payloads items payload (AForeign number content) are.1 (added ∙ ended.1),
-        is_within most _ has.1.1 c.in_ok-keep_within-in-Ok-Foreign.ensures,
+        is_within most _ has.1.1 c.in_ok-keep_within-in-Ok-Foreign.ensures.within,
       ),
     )
