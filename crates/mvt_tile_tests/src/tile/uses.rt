@@ -1,9 +1,9 @@
 //! The uses of tiles, over the tile that `place_tile` makes.
 use crate::expect::{expect, expect_eq};
+use mvt_callers::{count_features, first_fault, place_tile, tile_of_pieces};
 use mvt_io::MemorySource;
 use mvt_message::Cause;
 use mvt_tile::{DecodeError, Point, decode};
-use mvt_callers::{count_features, first_fault, place_tile, tile_of_pieces};
 use std::process::Abort;
 
 // The layer "places", in which Rome stands at (1,2).
