@@ -443,8 +443,8 @@ impl<'a> LayerEntries<'a> {
     /// these uses, and makes of them those that the attributes have among the keys and the values
     /// that are used (4.4). Answers whether the bytes are as these are to be packed.
     ///
-    /// `None` if they break a rule, of which [`judge_tags`](crate::judge_tags) tells the first: then
-    /// the same entries are used as before.
+    /// `None` if they break a rule, of which [`judge_tags`](crate::judge_tags) tells the first; the
+    /// same entries are used then as before.
     ///
     /// # Errors
     ///

@@ -1,6 +1,6 @@
 -- Features whose fields stand once each, in any order, judged in their bytes.
 use Rattle.std.proofs.Common.{◌≡◌, ◌≢◌, ◌⊎◌, inl, inr, ℕ, List, [], ◌∷◌, ◌++◌, Result, Ok, Err, refl, sym, ap, subst, ◌∙◌, append_assoc}
-use Rattle.std.specs.Prelude.{IfErr, OnErr}
+use Rattle.std.specs.Prelude.{OnErr}
 use Rattle.std.proofs.lemmas.Bool.{cases_eq, ne_eqb}
 use Rattle.mvt_base.proofs.RuleLemmas.{each_more}
 use Rattle.mvt_attrs.specs.Values.{Value}
@@ -106,11 +106,6 @@ pub told_parts : {V : Type 0} (HasParts : V → List Part → List Point → V �
     → (parts : List Part) × (begun : List Point) × HasParts start parts begun now
 told_parts HasParts HasIntegers start now kind d known drawn =
     told_by HasParts HasIntegers start now drawn.2 (λ e. known (drawn.3.same_kind ∙ e)) drawn.4
-
--- what holds of each error holds of the one that there may be
-pub of_any_error : {A E : Type 0} (r : Result A E) (P : E → Type 0) → ((e : E) → P e) → IfErr r P
-of_any_error (Ok a) P holds = tt
-of_any_error (Err e) P holds = holds e
 
 pub on_any_error : {A E : Type 0} (r : Result A E) (P : Type 0) → P → OnErr r P
 on_any_error (Ok a) P holds = tt

@@ -44,8 +44,8 @@ use std::alloc::{AllocError, Global};
 /// copied. The geometry is passed to a visitor on the way.
 ///
 /// `None` if its fields are others, if an integer has a shorter spelling, if the type is unknown, or
-/// if a rule seems to be broken: then the visitor may have received some parts, the same entries are
-/// used as before, and [`rewrite_feature`] does it or says what is wrong.
+/// if a rule seems to be broken: then the visitor may have received some parts, the same entries
+/// are used as before, and [`rewrite_feature`] does it or says what is wrong.
 ///
 /// # Errors
 ///

@@ -19,11 +19,6 @@ pub positions-push : (c : Point) (ds : List Pair) (d : Pair) → positions c (ds
 positions-push c [] d = refl
 positions-push c (e ∷ ds) d = ap (λ ps. stepped c e ∷ ps) (positions-push (stepped c e) ds d)
 
-pairs_end : (rest : List ℕ) → length rest < 2 → pairs_of rest ≡ []
-pairs_end [] h = refl
-pairs_end (n ∷ []) h = refl
-pairs_end (n ∷ (m ∷ rest)) h = absurd (omega (arith, h))
-
 module _ {from : Point} {parameters rest : List ℕ} {c : Point} {area : ℤ} {done : List Pair}
     (w : Passed from parameters rest c area done) where
   -- one pair more

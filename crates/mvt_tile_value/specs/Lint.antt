@@ -32,13 +32,6 @@ is_far extent z = nat_lt 0 extent && nat_lt (widest z) (scaled extent z)
 abbrev pub is_far_point : ℕ → Point → Bool
 is_far_point extent p = is_far extent p.x || is_far extent p.y
 
--- 4.3: the positions of a geometry, in order
-abbrev pub positions_of : Geometry → List Point
-positions_of (Unknown integers) = []
-positions_of (Points points) = points
-positions_of (Lines lines) = joined lines
-positions_of (Polygons polygons) = joined (rings_of polygons)
-
 abbrev pub far_finding : ℕ → ℕ → Option Point → List Finding
 far_finding layer feature None = []
 far_finding layer feature (Some p) = FarPoint layer feature p.x p.y ∷ []

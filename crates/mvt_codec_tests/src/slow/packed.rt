@@ -1,5 +1,5 @@
-//! Geometries told from packed bytes of which each is made another, beside the same told from a list
-//! of their integers.
+//! Geometries told from packed bytes of which each is made another, beside the same told from a
+//! list of their integers.
 use crate::codec::packed::expect_same;
 use mvt_geometry::Kind;
 use mvt_wire::PackedNumbers;
