@@ -1,5 +1,5 @@
 //! Lists that are used again from feature to feature.
-ghost use Rattle.std.specs.Prelude.{◌≡◌};
+ghost use Rattle.std.specs.Prelude.{◌≡◌, [], IfOk};
 ghost use Rattle.mvt_feature.specs.Drawn.{tags_of, integers_of};
 
 use mvt_wire::PackedNumbers;
@@ -32,7 +32,10 @@ const FIRST_ROOM: usize = 32;
 
 impl Scratch {
     /// A scratch that has taken no memory yet.
-    pub fn new(alloc: Global) -> Self {
+    pub fn new(alloc: Global) -> Self
+        ensures tags { tags_of result ≡ [] }
+        ensures integers { integers_of result ≡ [] }
+    {
         Scratch {
             tags: Vec::new(alloc),
             written_tags: Vec::new(alloc),
@@ -62,7 +65,10 @@ impl Scratch {
     /// # Errors
     ///
     /// When memory runs out.
-    pub fn with_room(alloc: Global) -> Result<Self, AllocError> {
+    pub fn with_room(alloc: Global) -> Result<Self, AllocError>
+        ensures tags { IfOk result (λ scratch. tags_of scratch ≡ []) }
+        ensures integers { IfOk result (λ scratch. integers_of scratch ≡ []) }
+    {
         let mut scratch = Scratch::new(alloc);
         scratch.tags.reserve(FIRST_ROOM)?;
         scratch.written_tags.reserve(FIRST_ROOM)?;
