@@ -1,10 +1,10 @@
 //! What a person at a terminal is told below the program's lines: what an input looks like that is
 //! no tile, and why one can't be read.
-ghost use Rattle.std.specs.Prelude.{◌≡◌, Option, Some, IfOk, string_bytes};
+ghost use Rattle.std.specs.Prelude.{◌≡◌, Option, Some, None, false, IfOk, string_bytes};
 ghost use Rattle.std.specs.Option.{option_copied, option_map};
 ghost use Rattle.mvt_places.specs.Lookalikes.{lookalike_of};
 ghost use Rattle.mvt_cli.specs.declared.hints.Oddity.TheVariants.{Looks};
-ghost use Rattle.mvt_cli.specs.Hints.{command_of, hint_of, look_of, name_of, odd_begin, part_of};
+ghost use Rattle.mvt_cli.specs.Hints.{command_of, first_odd, has_begun, hint_of, look_of, name_of, odd_begin, part_of};
 
 use mvt_base::Text;
 use mvt_io::Source;
@@ -33,7 +33,7 @@ pub struct Watched<R> {
 impl<R> Watched<R> {
     /// A reader of which nothing was read.
     pub fn new(inner: R) -> Self
-        ensures { result.inner ≡ inner }
+        ensures { result ≡ record { inner = inner; is_begun = false; oddity = None } }
     {
         Watched {
             inner,
@@ -52,6 +52,7 @@ impl<R> Watched<R> {
     /// Looks at the first bytes that a read gave.
     fn note(&mut self, bytes: &[u8])
         ensures same { self.new.inner ≡ self.old.inner }
+        ensures begun { self.new.is_begun ≡ has_begun self.old.is_begun bytes.now }
         ensures looks { self.new.oddity ≡ odd_begin self.old.is_begun bytes.now self.old.oddity }
     {
         if !self.is_begun && !bytes.is_empty() {
@@ -99,7 +100,8 @@ pub struct WatchedFolder<F> {
 impl<F> WatchedFolder<F> {
     /// A folder of which nothing was opened.
     pub fn new(alloc: Global, inner: F) -> Self
-        ensures { result.inner ≡ inner }
+        ensures inner { result.inner ≡ inner }
+        ensures none { result.noted ≡ None }
     {
         WatchedFolder {
             alloc,
@@ -117,7 +119,8 @@ impl<F> WatchedFolder<F> {
 
     /// Without memory for the name nothing is noted.
     fn note(&mut self, name: Result<Text, AllocError>, oddity: Option<Oddity>)
-        ensures { self.new.inner ≡ self.old.inner }
+        ensures same { self.new.inner ≡ self.old.inner }
+        ensures first { self.new.noted ≡ first_odd self.old.noted name oddity }
     {
         if self.noted.is_some() {
             return;

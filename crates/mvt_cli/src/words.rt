@@ -40,7 +40,10 @@ impl From<AllocError> for Refusal {
 }
 
 /// The words that the program was started with.
-pub fn arguments(rt: &(impl Env + AllocGlobal)) -> Result<Vec<String>, Refusal> {
+pub fn arguments(rt: &(impl Env + AllocGlobal)) -> Result<Vec<String>, Refusal>
+    ensures { IfErr result (λ refusal. IsUsage refusal
+        → usage_text refusal ≡ codes "error: an argument isn't UTF-8\n") }
+{
     match env::args(rt) {
         Ok(words) => Ok(words.collect(rt.alloc())?),
         Err(error) if error.kind() == io::ErrorKind::InvalidData => {
