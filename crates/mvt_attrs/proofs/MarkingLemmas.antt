@@ -21,14 +21,6 @@ pub record Found (texts : List (List ℕ)) (n : ℕ) (first_indices : List ℕ) 
   pub found : (j : ℕ) (a : List ℕ) → j < n → slice_get texts j ≡ Some a → find a ≡ Some (get_or first_indices j 0)
   pub first : (a : List ℕ) (v : ℕ) → find a ≡ Some v → slice_get texts v ≡ Some a
 
-pub found_none : (texts : List (List ℕ)) (first_indices : List ℕ) (find : List ℕ → Option ℕ) → first_indices ≡ []
-    → ((q : List ℕ) → find q ≡ None) → Found texts 0 first_indices find
-found_none texts first_indices find e nothing = record {
-  count = ap length e;
-  found = λ j a lt at. absurd (omega arith);
-  first = λ a v at. let none = nothing a in cc;
-}
-
 front_of : (first_indices : List ℕ) (place j : ℕ) → j < length first_indices
     → get_or (first_indices ++ place ∷ []) j 0 ≡ get_or first_indices j 0
 front_of first_indices place j lt = get_or_append_left first_indices (place ∷ []) 0 j lt

@@ -1,10 +1,9 @@
 -- Payloads of values and features that are canonical as they stand.
-use Rattle.std.proofs.Common.{◌≡◌, ℕ, zero, suc, ◌<◌, ◌^◌, true, false, List, [], ◌∷◌, ◌++◌, length, drop, None, refl, sym, ap, ap₂, subst, ◌∙◌, arith, append-nil}
+use Rattle.std.proofs.Common.{◌≡◌, ℕ, zero, suc, ◌<◌, ◌^◌, true, false, List, [], ◌∷◌, ◌++◌, None, refl, sym, ap, ap₂, subst, ◌∙◌, arith, append-nil}
 use Rattle.std.specs.Prelude.{IfSome}
 use Rattle.std.specs.List.{AllByRecursion}
 use Rattle.std.specs.Int.{w64, cast_signed}
 use Rattle.std.proofs.lemmas.Int.{of_z-to_z}
-use Rattle.std.proofs.Math.ListN.{drop_of_length-le}
 use Rattle.mvt_attrs.specs.Values.{Value}
 use Rattle.mvt_attrs.specs.declared.value.ValueOf.TheVariants.{Float, Double, Int, Uint, Sint, Bool as Truth}
 use Rattle.mvt_attrs.specs.declared.value.Attribute.{Attribute}
@@ -16,7 +15,7 @@ use Rattle.mvt_geometry.specs.declared.shape.Geometry.{Geometry}
 use Rattle.mvt_geometry.specs.Drawing.{Draws}
 use Rattle.mvt_geometry.specs.Shape.{kind_of}
 use Rattle.mvt_wire.specs.Field.{Content, varint, fixed64, bytes, fixed32}
-use Rattle.mvt_wire.specs.Spelling.{Plain, short_field, short_numbers, spelled}
+use Rattle.mvt_wire.specs.Spelling.{short_numbers, spelled}
 use Rattle.mvt_wire.specs.Zigzag.{unzig}
 use Rattle.mvt_feature.specs.declared.canonical_feature.CanonicalFeature.{CanonicalFeature}
 use Rattle.mvt_feature.specs.declared.canonical_feature.Parts.{Parts}
@@ -24,7 +23,7 @@ use Rattle.mvt_feature.specs.declared.feature.Feature.{Feature}
 use Rattle.mvt_feature.specs.declared.numbers.feature.TheConstants.{GEOMETRY}
 use Rattle.mvt_feature.specs.declared.numbers.value.TheConstants.{FLOAT, DOUBLE, INT, UINT, SINT, BOOL}
 use Rattle.mvt_feature.specs.Canonical.{plain, field_of_value, id_fields, tags_fields, type_fields, drawing_fields, feature_fields}
-use Rattle.mvt_feature.specs.Copying.{AreReady, IsCanonicalAfter, IsCanonicalValue, parts_fields}
+use Rattle.mvt_feature.specs.Copying.{AreReady, IsCanonicalAfter, parts_fields}
 use Rattle.mvt_feature.specs.Ordering.{IsOfParts, IsOfPartsAfter}
 use Rattle.mvt_feature.specs.Valid.{ValidValue}
 use Rattle.mvt_feature.proofs.CanonicalLemmas.{tags_packed}
@@ -57,16 +56,6 @@ pub says_bool : (n : ℕ) → n < 2 → SaysValue BOOL (varint n)
 says_bool zero small = (Truth false, tt, refl)
 says_bool (suc zero) small = (Truth true, tt, refl)
 says_bool (suc (suc n)) small = absurd (omega arith)
-
--- a payload of one field alone
-pub value_from : (payload : List ℕ) (number after : ℕ) (content : Content) → SaysValue number content
-    → drop 0 payload ≡ short_field number content ++ drop after payload → after ≡ length payload
-    → (value : Value) × IsCanonicalValue payload value
-value_from payload number after content (value, valid, is) front whole =
-    let none : drop after payload ≡ [] = drop_of_length-le payload (omega (arith, whole)) in (
-      value,
-      (valid, front ∙ ap (λ r. short_field number content ++ r) none ∙ ap (λ (p : Plain). spelled (p ∷ [])) (sym is)),
-    )
 
 -- a feature from its parts
 pub feature_found : (Holds : Geometry → Type 0) (p : Parts) (keys : List (List ℕ)) (held : List Value) (tags ints : List ℕ)

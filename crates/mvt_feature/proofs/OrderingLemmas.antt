@@ -1,5 +1,5 @@
 -- Features whose fields stand in any order.
-use Rattle.std.proofs.Common.{◌≡◌, ◌≢◌, ℕ, ◌==◌, ◌^◌, ◌<◌, ◌≤◌, Bool, true, false, List, [], ◌∷◌, ◌++◌, length, map, drop, Bor, Some, None, refl, sym, ap, ap₂, subst, ◌∙◌, append_assoc, append-nil, lit<, lit≤, if◌then◌else◌}
+use Rattle.std.proofs.Common.{◌≡◌, ◌≢◌, ℕ, ◌==◌, ◌^◌, ◌<◌, Bool, true, false, List, [], ◌∷◌, ◌++◌, length, map, drop, Bor, Some, None, refl, sym, ap, ap₂, subst, ◌∙◌, append_assoc, append-nil, lit<, lit≤, if◌then◌else◌}
 use Rattle.std.specs.Prelude.{IfSome}
 use Rattle.std.proofs.lemmas.Bool.{eqb-true}
 use Rattle.mvt_base.proofs.ListLemmas.{all_joined}

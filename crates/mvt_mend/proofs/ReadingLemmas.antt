@@ -1,5 +1,5 @@
 -- Steps of reading the parts of integers.
-use Rattle.std.proofs.Common.{arith, ◌≡◌, ℕ, suc, zero, ◌*◌, ◌<◌, ◌≤◌, Bool, true, false, List, [], ◌∷◌, ◌++◌, length, take, drop, slice_index, Option, Some, None, refl, ap, ◌≢◌, sym, ◌∙◌, ◌+ℤ◌, ◌≤ℤ◌, ℤ, pos, negsuc, FitsSigned, to_z, of_z, w32}
+use Rattle.std.proofs.Common.{arith, ◌≡◌, ℕ, ◌*◌, ◌≤◌, Bool, true, false, List, [], ◌∷◌, ◌++◌, length, take, drop, slice_index, Option, Some, None, refl, ap, ◌≢◌, sym, ◌∙◌, ◌+ℤ◌, ◌≤ℤ◌, ℤ, pos, negsuc, FitsSigned, to_z, of_z, w32}
 use Rattle.std.proofs.lemmas.Bool.{ne_eqb}
 use Rattle.std.proofs.lemmas.Int.{ints, to_z-of_z}
 use Rattle.std.specs.Option.{option_and_then}
@@ -7,7 +7,7 @@ use Rattle.mvt_wire.specs.Zigzag.{unzig}
 use Rattle.mvt_geometry.specs.declared.shape.Point.{Point}
 use Rattle.mvt_geometry.specs.Shape.{InRange, wide}
 use Rattle.mvt_geometry.specs.Table.{is_outside}
-use Rattle.mvt_mend.specs.Reading.{moved, step, path_in, Path, Part, count_in, begins_line, has_pairs, after_part, part_in, parts_after}
+use Rattle.mvt_mend.specs.Reading.{moved, step, path_in, Path, count_in, begins_line, has_pairs, after_part, part_in}
 
 -- what is in range fits
 pub in_range_fits : (z : ℤ) → InRange z → FitsSigned w32 z
@@ -94,24 +94,3 @@ pub one_part : (ring : Bool) (c : Point) (ints : List ℕ) (first : Point) (path
     → part_in ring c ints ≡ Some (record { points = path.points; last = path.last; rest = rest })
 unfolding part_in
 one_part ring c ints first path rest line pairs begun goes ends = rw (line, pairs, begun, goes, ends)
-
--- the parts after one, where there are fewer integers than n
-pub next_part : (ring : Bool) (n : ℕ) (before : List (List Point)) (c : Point) (ints : List ℕ) (part : Part) (whole : Option (List (List Point)))
-    → length ints < n → 0 < length ints → part_in ring c ints ≡ Some part → length part.rest < length ints
-    → parts_after ring n before c ints ≡ whole
-    → (m : ℕ) × (length part.rest < m) × (parts_after ring m (before ++ part.points ∷ []) part.last part.rest ≡ whole)
-next_part ring zero before c ints part whole few some is further same = absurd (omega arith)
-next_part ring (suc n) before c [] part whole few some is further same = absurd (omega arith)
-next_part ring (suc n) before c (i ∷ ints) part whole few some is further same = (n, omega arith, rw is at same)
-
-pub no_part : (ring : Bool) (n : ℕ) (before : List (List Point)) (c : Point) (ints : List ℕ) (whole : Option (List (List Point)))
-    → length ints < n → 0 < length ints → part_in ring c ints ≡ None → parts_after ring n before c ints ≡ whole → None ≡ whole
-no_part ring zero before c ints whole few some is same = absurd (omega arith)
-no_part ring (suc n) before c [] whole few some is same = absurd (omega arith)
-no_part ring (suc n) before c (i ∷ ints) whole few some is same = rw is at same
-
-pub no_more : (ring : Bool) (n : ℕ) (before : List (List Point)) (c : Point) (ints : List ℕ) (whole : Option (List (List Point)))
-    → length ints < n → length ints ≡ 0 → parts_after ring n before c ints ≡ whole → Some before ≡ whole
-no_more ring zero before c ints whole few none same = absurd (omega arith)
-no_more ring (suc n) before c [] whole few none same = same
-no_more ring (suc n) before c (i ∷ ints) whole few none same = absurd (omega arith)
