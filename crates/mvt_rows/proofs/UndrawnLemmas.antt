@@ -1,5 +1,5 @@
 -- Which rule a part breaks that was refused: it breaks one unless it can be drawn.
-use Rattle.std.proofs.Common.{arith, ◌≡◌, ◌≢◌, ℕ, suc, ◌+◌, ◌^◌, ◌<◌, ◌≤◌, ◌&&◌, ◌||◌, not, nat_lt, Bool, true, false, ℤ, pos, negsuc, ◌≤ℤ◌, ◌-ℤ◌, List, [], ◌∷◌, ◌++◌, length, map, drop, get_or, Option, Some, None, Ok, Err, refl, sym, ap, ap₂, ◌∙◌, subst, if◌then◌else◌}
+use Rattle.std.proofs.Common.{arith, ◌≡◌, ◌≢◌, ℕ, suc, ◌+◌, ◌^◌, ◌<◌, ◌≤◌, ◌&&◌, ◌||◌, not, nat_lt, Bool, true, false, ℤ, pos, negsuc, ◌≤ℤ◌, ◌-ℤ◌, List, [], ◌∷◌, ◌++◌, length, Option, Some, None, Ok, Err, refl, sym, ap, ap₂, ◌∙◌, subst, if◌then◌else◌}
 use Rattle.std.specs.Int.Signed.{lt_z}
 use Rattle.std.specs.List.{AllByRecursion}
 use Rattle.std.specs.Option.{option_map, option_or}
@@ -7,7 +7,6 @@ use Rattle.std.specs.Ordering.{int_eq}
 use Rattle.std.proofs.lemmas.Bool.{le-ltb, ltb-false}
 use Rattle.std.proofs.lemmas.Bool.Decides.{Decides-int_eq}
 use Rattle.std.proofs.lemmas.Int.{ints, by_lt_z}
-use Rattle.std.proofs.lemmas.List.{drop_more}
 use Rattle.mvt_base.proofs.RuleLemmas.{option_or-none, option_or-nones, option_or-some}
 use Rattle.mvt_base.proofs.TableLemmas.{none_mapped}
 use Rattle.mvt_geometry.specs.declared.strokes.RingRole.{RingRole}
@@ -22,8 +21,6 @@ use Rattle.mvt_geometry.specs.Valid.{IsValid}
 use Rattle.mvt_rows.specs.declared.undrawn.DrawingRule.{DrawingRule}
 use Rattle.mvt_rows.specs.declared.undrawn.DrawingRule.TheVariants.{Count, ZeroSegment, CoordinateRange, ParameterRange}
 use Rattle.mvt_rows.specs.declared.undrawn.Undrawn.{Undrawn}
-use Rattle.mvt_rows.specs.declared.rows.PointRow.{PointRow}
-use Rattle.mvt_rows.specs.TileRows.{point_of}
 use Rattle.mvt_rows.specs.Drawing.{AreJudged, end_from}
 use Rattle.mvt_rows.specs.Undrawn.{Stroke, allows, area_fault, area_rule, at_point, count_fault, is_out, is_zero, of_part, part_by, parts_fault, path_fault, step_rule, stroke_fault}
 
@@ -148,12 +145,6 @@ path_none line part number c (p ∷ ps) h =
     let step = step_none line c p (none_mapped (at_point part number) (step_rule line c p) both.0) in
     let more = path_none line part (suc number) p ps both.1 in
     ((step.place, more.0), (step.step, more.1), λ t. (step.away t, more.2 t))
-
--- the points that are left, the next of which is p
-pub points_at : (rows : List PointRow) (i : ℕ) (row : PointRow) (p : Point) → i < length rows → row ≡ get_or rows i row → p ≡ point_of row
-    → map point_of (drop i rows) ≡ p ∷ map point_of (drop (i + 1) rows)
-points_at rows i row p within is same =
-    ap (map point_of) (drop_more rows i row within ∙ ap (λ y. y ∷ drop (i + 1) rows) (sym is)) ∙ ap (λ q. q ∷ map point_of (drop (i + 1) rows)) (sym same)
 
 no_step : (part number : ℕ) (o : Option DrawingRule) → o ≡ None → option_map (at_point part number) o ≡ None
 no_step part number o h = ap (option_map (at_point part number)) h
