@@ -2,6 +2,10 @@
 //! Mapbox Vector Tiles.
 #![tactic(auto)]
 
+ghost use Rattle.std.specs.Prelude.{◌≡◌, ◌⊎◌, codes, MatchOption};
+ghost use Rattle.mvt_tasks.specs.Checks.{Prints};
+ghost use Rattle.mvt_cli.specs.Hints.{hint_of};
+
 mod hints;
 mod laws;
 mod run;
@@ -41,15 +45,21 @@ fn main(rt: HostRuntime) -> ExitCode {
     ExitCode::from(status)
 }
 
-/// Adds a line about a refused or unread input, if there is one to add.
-fn tell<E: Sink>(alloc: Global, file: &str, oddity: Oddity, errors: &mut E) {
+/// Adds a line about a refused or unread input, if there is one to add; nothing for lack of memory.
+fn tell<E: Sink>(alloc: Global, file: &str, oddity: Oddity, errors: &mut E)
+    ensures { (errors.new ≡ errors.old)
+        ⊎ Prints (E.state errors.old) (E.state errors.new) (hint_of file.now oddity) }
+{
     if let Ok(line) = hint(alloc, file, oddity) {
         print(errors, line.as_str());
     }
 }
 
 /// The same of standard input, which has no name.
-fn tell_of_input<E: Sink>(alloc: Global, oddity: Option<Oddity>, errors: &mut E) {
+fn tell_of_input<E: Sink>(alloc: Global, oddity: Option<Oddity>, errors: &mut E)
+    ensures { MatchOption oddity (errors.new ≡ errors.old) (λ oddity. (errors.new ≡ errors.old)
+        ⊎ Prints (E.state errors.old) (E.state errors.new) (hint_of (codes "FILE") oddity)) }
+{
     if let Some(oddity) = oddity {
         tell(alloc, "FILE", oddity, errors);
     }
