@@ -1,5 +1,5 @@
 -- What a person at a terminal is told below the program's lines.
-use Rattle.std.specs.Prelude.{ℕ, ◌==◌, ◌||◌, not, Bool, List, [], ◌++◌, length, Option, Some, None, Result, Ok, Err, codes, if◌then◌else◌}
+use Rattle.std.specs.Prelude.{ℕ, ◌==◌, ◌||◌, Bool, List, [], ◌++◌, length, Option, Some, None, codes, if◌then◌else◌}
 use Rattle.std.specs.declared.io.ErrorKind.TheVariants.{NotFound, PermissionDenied, IsADirectory}
 use Rattle.mvt_places.specs.Lookalikes.{lookalike_of}
 use Rattle.mvt_places.specs.declared.lookalike.Lookalike.{Lookalike}
@@ -14,17 +14,6 @@ look_of (Some lookalike) = Some (Looks lookalike)
 -- what is odd about an input after a read: the first that gives bytes tells
 abbrev pub odd_begin : Bool → List ℕ → Option Oddity → Option Oddity
 odd_begin is_begun bytes oddity = if is_begun || (length bytes == 0) then oddity else look_of (lookalike_of bytes)
-
--- whether a read has given bytes
-abbrev pub has_begun : Bool → List ℕ → Bool
-has_begun is_begun bytes = is_begun || not (length bytes == 0)
-
--- the first odd file after one more, whose name may not have been kept for lack of memory
-abbrev pub first_odd : {E : Type 0} → Option (List ℕ × Oddity) → Result (List ℕ) E → Option Oddity → Option (List ℕ × Oddity)
-first_odd (Some first) name oddity = Some first
-first_odd None (Ok name) (Some oddity) = Some (name, oddity)
-first_odd None (Ok name) None = None
-first_odd None (Err e) oddity = None
 
 -- what an input looks like, in words
 unfoldable pub name_of : Lookalike → List ℕ

@@ -1,10 +1,11 @@
 //! What a person at a terminal is told below the program's lines: what an input looks like that is
 //! no tile, and why one can't be read.
-ghost use Rattle.std.specs.Prelude.{◌≡◌, Option, Some, None, false, IfOk, string_bytes};
-ghost use Rattle.std.specs.Option.{option_copied, option_map};
+ghost use Rattle.std.specs.Prelude.{◌≡◌, ◌==◌, ◌||◌, not, Option, Some, None, false, length, IfOk, string_bytes};
+ghost use Rattle.std.specs.Option.{option_copied, option_map, option_or, option_zip};
+ghost use Rattle.std.specs.Result.{result_ok};
 ghost use Rattle.mvt_places.specs.Lookalikes.{lookalike_of};
 ghost use Rattle.mvt_cli.specs.declared.hints.Oddity.TheVariants.{Looks};
-ghost use Rattle.mvt_cli.specs.Hints.{command_of, first_odd, has_begun, hint_of, look_of, name_of, odd_begin, part_of};
+ghost use Rattle.mvt_cli.specs.Hints.{command_of, hint_of, look_of, name_of, odd_begin, part_of};
 
 use mvt_base::Text;
 use mvt_io::Source;
@@ -52,7 +53,7 @@ impl<R> Watched<R> {
     /// Looks at the first bytes that a read gave.
     fn note(&mut self, bytes: &[u8])
         ensures same { self.new.inner ≡ self.old.inner }
-        ensures begun { self.new.is_begun ≡ has_begun self.old.is_begun bytes.now }
+        ensures begun { self.new.is_begun ≡ self.old.is_begun || not (length bytes.now == 0) }
         ensures looks { self.new.oddity ≡ odd_begin self.old.is_begun bytes.now self.old.oddity }
     {
         if !self.is_begun && !bytes.is_empty() {
@@ -120,13 +121,11 @@ impl<F> WatchedFolder<F> {
     /// Without memory for the name nothing is noted.
     fn note(&mut self, name: Result<Text, AllocError>, oddity: Option<Oddity>)
         ensures same { self.new.inner ≡ self.old.inner }
-        ensures first { self.new.noted ≡ first_odd self.old.noted name oddity }
+        ensures first { self.new.noted ≡ option_or self.old.noted
+            (option_zip (result_ok name) oddity) }
     {
-        if self.noted.is_some() {
-            return;
-        }
-        if let (Ok(name), Some(oddity)) = (name, oddity) {
-            self.noted = Some((name, oddity));
+        if self.noted.is_none() {
+            self.noted = name.ok().zip(oddity);
         }
     }
 }
