@@ -519,8 +519,8 @@ impl<'a> LayerEntries<'a> {
     ///
     /// # Errors
     ///
-    /// As [`tags_of`](crate::tags_of): the entries of the attributes up to some place are then used,
-    /// and the list is unchanged or longer.
+    /// As [`tags_of`](crate::tags_of): the entries of the attributes up to some place are then
+    /// used, and the list is unchanged or longer.
     pub fn append_attributes(
         &mut self,
         attributes: &'a [Attribute],
@@ -536,7 +536,7 @@ impl<'a> LayerEntries<'a> {
             → OnErr result ((n : ℕ) × AreUsedUpTo n attributes.now self.old self.new) }
         ensures left { OnErr result (Extends out.old.items out.new.items) }
 
-        // `Full` says that an entry was new where as many are used as may be, `Memory` that none was.
+        // `Full`: an entry was new where as many are used as may be. `Memory`: none was.
         ensures full { HasNoneAdded self.old → IsErrOf result PoolError.Full
             → (length (used_of self.new.keys) ≡ LIMIT)
             ⊎ (length (used_of self.new.values) ≡ LIMIT) }

@@ -36,8 +36,8 @@ fn rewritten(alloc: Global, bytes: &[u8]) -> Result<Vec<u8>, Refusal>
     rewrite(alloc, bytes)?.ok_or(Refusal::TooLarge)
 }
 
-/// The canonical bytes of a tile's named layers, in the order of the tile, or the index of the first
-/// name that no layer has (`mvt_extract`).
+/// The canonical bytes of a tile's named layers, in the order of the tile, or the index of the
+/// first name that no layer has (`mvt_extract`).
 #[unsafe(no_mangle)]
 pub extern "C" fn mvt_extract_named(
     alloc: Global,

@@ -66,7 +66,8 @@ pub fn run<F: Folder, R: Source, W: Sink, E: Sink>(
     ensures apart { (files_in (map string_bytes words.now) ≡ [] → folder.new ≡ folder.old)
         × (files_in (map string_bytes words.now) ≢ [] → reader.new ≡ reader.old) }
 
-    ensures sound { IsGiven result → NoneFailed (R.state reader.old).faults (R.state reader.new).faults
+    ensures sound { IsGiven result
+        → NoneFailed (R.state reader.old).faults (R.state reader.new).faults
         × NoneFailed (W.state writer.old).faults (W.state writer.new).faults }
 
     // A refused line touches nothing but the error stream, and no other line is refused.

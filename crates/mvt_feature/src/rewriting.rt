@@ -43,8 +43,8 @@ use std::alloc::{AllocError, Global};
 /// A tag becomes the index of its key or value among those that are used, and the integers are
 /// copied. The geometry is passed to a visitor on the way.
 ///
-/// `None` if its fields are others, if an integer has a shorter spelling, if the type is unknown, or
-/// if a rule seems to be broken: then the visitor may have received some parts, the same entries
+/// `None` if its fields are others, if an integer has a shorter spelling, if the type is unknown,
+/// or if a rule seems to be broken: then the visitor may have received some parts, the same entries
 /// are used as before, and [`rewrite_feature`] does it or says what is wrong.
 ///
 /// # Errors
@@ -174,8 +174,8 @@ pub fn rewrite_feature(
     Ok(known)
 }
 
-/// Appends the canonical payload of the feature that a payload was judged to be, of which the scratch
-/// has the tags and the integers.
+/// Appends the canonical payload of the feature that a payload was judged to be, of which the
+/// scratch has the tags and the integers.
 fn append_judged(
     known: &FeatureFields,
     uses: &mut LayerEntries<'_>,

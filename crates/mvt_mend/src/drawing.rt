@@ -33,7 +33,7 @@ pub(crate) fn write_parts(
     Ok(Some(integers))
 }
 
-/// Appends the integers of a line or ring, and answers its last point; None where it can't be drawn.
+/// Appends the integers of a line or ring, and answers its last point; None if it can't be drawn.
 fn write_part(
     integers: &mut Vec<u32>,
     is_ring: bool,

@@ -10,7 +10,7 @@ use mvt_geometry::{Kind, Point, judge_geometry};
 use std::alloc::{AllocError, Global};
 
 /// The integers that stand in place of others which break one of two rules (sections 4.3.3.2 and
-/// 4.3.4.4): a point of a line or ring equals the one before it, or the first ring has negative area.
+/// 4.3.4.4): a point of a line or ring equals the one before, or the first ring has negative area.
 ///
 /// None where they stay: they draw a geometry; they break another rule too; what they become can't
 /// be drawn; or telling rings by nesting takes more than 32 steps for each integer. No integers

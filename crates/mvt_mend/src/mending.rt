@@ -25,8 +25,8 @@ pub fn mend_lines(alloc: Global, lines: &[Items<Point>]) -> Result<Items<Items<P
 /// Rings without repeated points, and without those that are too short then (4.3.3.2, 4.3.4.4).
 ///
 /// Where the first has negative area then, it is turned, and the others are told by nesting: a ring
-/// that lies in the last exterior one is interior, any other one exterior. A step asks for one point
-/// of a ring and one edge of an exterior one. None where more steps are needed than are given.
+/// that lies in the last exterior one is interior, any other one exterior. A step asks for a point
+/// of a ring and an edge of an exterior one. None where more steps are needed than are given.
 ///
 /// # Errors
 ///

@@ -70,8 +70,8 @@ impl<'a, V: FeatureVisitor> RewrittenLayer<'a, V> {
     }
 }
 
-/// Writes the features of a layer as [`visit_version_2`](crate::visit_version_2) visits them, and has
-/// a visitor be told them.
+/// Writes the features of a layer as [`visit_version_2`](crate::visit_version_2) visits them, and
+/// has a visitor be told them.
 ///
 /// ```ignore
 /// let mut rewriter = LayerRewriter::new(alloc, Ignore, payload.len())?;

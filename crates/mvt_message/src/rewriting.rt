@@ -28,11 +28,10 @@ use std::alloc::{AllocError, Global};
 /// Appends the canonical payload of the item that a payload is, and answers the name of the layer.
 /// It may be longer than the limit.
 ///
-/// A layer whose features, keys and values are canonical is copied. Of any other, feature by feature
-/// is judged and written; so its keys and values may be searched for twice. They are found by their
-/// hashes, and if others have these
-/// too, in order: the time grows as sorting the payload, whatever its texts are. It holds the
-/// layer's keys and values and the fields of its features.
+/// A layer whose features, keys and values are canonical is copied. Of any other, feature by
+/// feature is judged and written; so its keys and values may be searched for twice. They are found
+/// by their hashes, and if others have these too, in order: the time grows as sorting the payload,
+/// whatever its texts are. It holds the layer's keys and values and the fields of its features.
 ///
 /// # Errors
 ///

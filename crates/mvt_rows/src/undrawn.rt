@@ -7,7 +7,7 @@
 /// last two the integers would be read, but as other polygons.
 #[derive(Clone, Copy, Debug, PartialEq, Eq)]
 pub enum DrawingRule {
-    /// A line has fewer than two points, a ring fewer than three, or there are no points; of a part.
+    /// A line with fewer than two points, a ring with fewer than three, or no points; of a part.
     Count,
     /// A point of a line or ring is the one before it; at the point.
     ZeroSegment,

@@ -50,7 +50,7 @@ fn folder_of(alloc: Global) -> Result<MemoryFolder, AllocError> {
     Ok(MemoryFolder::new(alloc, files))
 }
 
-// The lint of these files answers this status, and these bytes and these lines stand on its streams.
+// The lint of these files answers this status, and puts these bytes and lines on its streams.
 fn expect_lint(
     rt: &(impl Abort + AllocGlobal),
     names: &[&str],

@@ -31,7 +31,8 @@ pub fn run_task<R: Source, W: Sink, E: Sink>(
         × GivesReply result (writer.new ≡ writer.old)
         (PutOut (W.state writer.old) (W.state writer.new)) (errors.new ≡ errors.old)
         (Prints (E.state errors.old) (E.state errors.new)) reply }
-    ensures sound { IsGiven result → NoneFailed (R.state reader.old).faults (R.state reader.new).faults
+    ensures sound { IsGiven result
+        → NoneFailed (R.state reader.old).faults (R.state reader.new).faults
         × NoneFailed (W.state writer.old).faults (W.state writer.new).faults }
 
     // Where no reply could be made, the output is as it was. A write that failed leaves a front of

@@ -104,7 +104,8 @@ fn push_mark(text: &mut String, mark: u8) -> Result<(), AllocError>
 fn push_control(text: &mut String, control: u8) -> Result<(), AllocError>
     requires low { control < 32 }
     requires letter { escape_letter control ≡ 0 }
-    ensures ok { OnOk result (string_bytes text.new ≡ string_bytes text.old ++ escape_byte control) }
+    ensures ok { OnOk result
+        (string_bytes text.new ≡ string_bytes text.old ++ escape_byte control) }
     ensures left { OnErr result (Extends (string_bytes text.old) (string_bytes text.new)) }
 {
     text.push_str("\\u00")?;

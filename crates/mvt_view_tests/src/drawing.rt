@@ -736,7 +736,7 @@ const RULES: [Option<(DrawingRule, usize, Option<usize>)>; 21] = [
     None,
 ];
 
-// Why the feature of rows isn't drawn: it is of no kind, its parts are none, or they break this rule.
+// Why the feature of rows isn't drawn: it has no kind or no parts, or they break this rule.
 fn cause_of(
     rt: &(impl Abort + AllocGlobal),
     rows: &Rows,

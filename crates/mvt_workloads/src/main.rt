@@ -1,5 +1,5 @@
-//! The jobs that `bench/run.py` times: mvt_workloads JOB SEED ROUNDS. It makes tiles by a seed, does
-//! the job on each of them in so many rounds, and prints a digest of all results. Between two
+//! The jobs that `bench/run.py` times: mvt_workloads JOB SEED ROUNDS. It makes tiles by a seed,
+//! does the job on each of them in so many rounds, and prints a digest of all results. Between two
 //! rounds the tiles change, so no call is made twice on one input.
 #![tactic(auto)]
 
