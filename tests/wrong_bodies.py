@@ -6,10 +6,11 @@ what a run that was stopped left is taken away by the next. By hand `rt must-fai
 between --lay and --told FILE, where FILE has what it said.
 
 Chosen are those whose own text is new since all of their crate were refused last, then those of files that changed
-since, then others, up to --most. In a crate without edits of its own it is none, or two at least, since the proof of
-the crate comes first. A body that is refused only because a proof names what it took away is named: it is to change a value
-instead. --all chooses all. Where all of a crate were tried and refused, tests/wrong_bodies.passed gets a
-line: the crate, the commit and the count.
+since, then others, up to --most. Where no name is given, they are of crates with edits of their own, since to begin with a
+crate's first edit is what costs most; at every third commit half of them are of one crate without. --all chooses all.
+
+A body that is refused only because a proof names what it took away is named: it is to change a value instead. Where all of a
+crate were tried and refused, tests/wrong_bodies.passed gets a line: the crate, the commit and the count.
 """
 
 import argparse
@@ -87,16 +88,13 @@ def in_order(root: Path, bodies: list[Path]) -> list[Path]:
     return sorted(drawn, key=lambda it: (rank(it), crates.index(crate_of(it))))
 
 
-def chosen(root: Path, bodies: list[Path], most: int) -> list[Path]:
-    """The first of these; of a crate without edits of its own none, or the first two and more."""
+def of_the_gate(root: Path, bodies: list[Path], most: int) -> list[Path]:
+    """The first of crates with edits of their own; at every third commit half are of the first crate without."""
     begun = {crate_of(it) for it in root.glob("crates/*/must-fail/*.edit")}
-    taken: list[Path] = []
-    for body in bodies:
-        more = [body] if crate_of(body) in begun else [it for it in bodies if crate_of(it) == crate_of(body)][:2]
-        if body not in taken and len(taken) + len(more) <= most:
-            taken += more
-            begun.add(crate_of(body))
-    return taken
+    others = [it for it in bodies if crate_of(it) not in begun]
+    is_third = int(git(root, "rev-parse", "HEAD") or "0", 16) % 3 == 0
+    another = [it for it in others if is_third and crate_of(it) == crate_of(others[0])]
+    return [*another[: most // 2], *(it for it in bodies if crate_of(it) in begun)][:most]
 
 
 def lay(root: Path, words: argparse.Namespace) -> list[str]:
@@ -106,7 +104,9 @@ def lay(root: Path, words: argparse.Namespace) -> list[str]:
         for it in bodies_of(root, untried=words.untried)
         if not words.name or {crate_of(it), f"{crate_of(it)}/{it.stem}"} & set(words.name)
     ]
-    bodies = chosen(root, in_order(root, found), len(found) if words.all or words.untried else words.most)
+    bodies = in_order(root, found)
+    if not (words.all or words.untried):
+        bodies = bodies[: words.most] if words.name else of_the_gate(root, bodies, words.most)
     for body in bodies:
         copy = root / "crates" / crate_of(body) / "must-fail" / (PREFIX + body.name)
         copy.parent.mkdir(exist_ok=True)

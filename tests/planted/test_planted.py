@@ -1,6 +1,6 @@
 #!/usr/bin/env python3
-"""What tests/wrong_bodies.py says of planted edits, and which it chooses: test_planted.py. They stand beside this file, for a
-crate of three small functions, of which each calls the one before it."""
+"""What tests/wrong_bodies.py says of planted edits: test_planted.py. They stand beside this file, for a crate of three small
+functions, of which each calls the one before it. tests/source/test_wrong_bodies.py has which it chooses."""
 
 import re
 import shutil
@@ -76,14 +76,12 @@ def test_note(made: Repository) -> None:
     assert made.note.read_text(encoding="utf-8") == f"planted {made.git('rev-parse', 'HEAD').strip()} 3\n", told
 
 
-def test_choice(made: Repository) -> None:
-    """A new text comes first, with another one, since the crate has no edits of its own; and none comes alone."""
-    body = made.crate / "wrong-bodies" / "wrong-step.edit"
-    body.write_text(body.read_text(encoding="utf-8").replace("= 2", "= 3"), encoding="utf-8")
-    assert made.run("--lay", "--most", 1) == (0, "wrong bodies: 0 chosen (none), 3 not chosen\n"), "one alone"
-    assert made.run("--lay", "--most", 2) == (0, "wrong bodies: 2 chosen (planted 2), 1 not chosen\n"), "two"
-    assert "laid-wrong-step" in made.laid(), f"not the new one: {made.laid()}"
-    assert made.run("--told", "/dev/null")[0] == 1, "nothing was said of those that are laid"
+def test_untold(made: Repository) -> None:
+    """Those that are laid and of which nothing was said have failed, and are taken away."""
+    assert made.run("--lay", "planted/wrong-step") == (0, "wrong bodies: 1 chosen (planted 1), 0 not chosen\n"), "one"
+    assert made.laid() == ["laid-wrong-step"], made.laid()
+    status, told = made.run("--told", "/dev/null")
+    assert status == 1 and "FAILED: planted/wrong-step: nothing was said of it" in told, told
     assert not made.laid(), "something was left"
 
 
@@ -91,12 +89,12 @@ def main() -> int:
     with tempfile.TemporaryDirectory(prefix="planted-") as room:
         made = Repository(Path(room))
         try:
-            for test in (test_verdicts, test_note, test_choice):
+            for test in (test_verdicts, test_note, test_untold):
                 test(made)
         except AssertionError as failure:
             print(f"planted edits: {failure}")
             return 1
-    print(f"planted edits: {len(WANTED)} verdicts, the note and the choice are as they must be")
+    print(f"planted edits: {len(WANTED)} verdicts, the note and what is untold are as they must be")
     return 0
 
 
