@@ -3,8 +3,8 @@
 
 Clones this repository's HEAD into FOLDER and runs `rt ci` there, with these words (--anew, where this machine has proved the
 same files before). Prints for each crate after how many minutes it was proved, its tests were, and its wrong bodies began to be
-tried, and then the minutes of processors of the whole. What `rt ci` said is kept in FOLDER/said, each line behind the
-seconds since it began. The other parts of .ci/run say themselves what they took.
+tried, and then what the whole took, how much of it was kept, and of which machine that is true. What `rt ci` said is kept in
+FOLDER/said, each line behind the seconds since it began. The other parts of .ci/run say themselves what they took.
 """
 
 import re
@@ -46,8 +46,10 @@ def main() -> None:
     print("| Crate | " + " | ".join(DONE) + " |\n|---|---|---|---|")
     for crate in sorted(last["proved"], key=last["proved"].__getitem__):
         print(f"| {crate} | " + " | ".join(f"{last[what][crate]:.0f}" if crate in last[what] else "" for what in DONE) + " |")
-    status, used = re.findall(r"status (\d+), (\d+) of processors", text)[-1]
-    print(f"\nstatus {status}, {int(used) / 60:.0f} minutes of processors")
+    took, status, used = re.findall(r"^(\d+)\.\d status (\d+), (\d+) of processors", text, re.M)[-1]
+    print(f"\nstatus {status}, {int(took) / 60:.0f} minutes, {int(used) / 60:.0f} of processors")
+    print("".join(re.findall(r"^\d+\.\d (rt: ok.*\n)", text, re.M)[-1:]), end="", flush=True)
+    subprocess.run([TOP / "tests" / "machine"], check=True)
 
 
 main()
