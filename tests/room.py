@@ -17,6 +17,8 @@ BUILT = Path(os.environ.get("BUILT", TOP / "library" / "out")).resolve()
 C = ["cc", "-std=c11", "-O1", "-g", "-Wall", "-Wextra", "-Werror", f"-I{TOP}/library/c"]
 CXX = ["-std=c++20", "-O1", "-g", "-Wall", "-Wextra", "-Wpedantic", "-Werror", f"-I{TOP}/library/c", f"-I{TOP}/library/cpp"]
 SANITIZED = ["-fsanitize=address,undefined", "-fno-sanitize-recover=all"]
+# Words for a program whose lines are counted, and those of C in the library, where tests/library/run built an object that counts.
+COUNTED = ["-O0", "--coverage"] if "MVT_COUNTED" in os.environ else []
 VALGRIND = ["valgrind", "-q", "--error-exitcode=9", "--leak-check=full"]
 
 
@@ -44,7 +46,8 @@ def compiled(source, *words, compiler=None):
     """A program of one source over the library, compiled with these words beside."""
     first = compiler or (C if source.suffix == ".c" else ["g++", *CXX])
     name = "-".join(["program", source.stem, *(word.strip("-").split("=")[0].split("/")[-1] for word in words)])
-    return made(name, lambda path: run(*first, *words, "-o", path, source, BUILT / "libmvt.a", *words))
+    library = [BUILT / "libmvt.a"] if "--coverage" not in words else [Path(os.environ["MVT_COUNTED"], "mvt.o"), BUILT / "libmvt.a"]
+    return made(name, lambda path: run(*first, *words, "-o", path, source, *library, *words))
 
 
 def others():

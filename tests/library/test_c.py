@@ -9,7 +9,7 @@ from pathlib import Path
 
 import cases
 import pytest
-from room import BUILT, C, SANITIZED, TOP, VALGRIND, cases_of, compiled, made, needs, run
+from room import BUILT, C, COUNTED, SANITIZED, TOP, VALGRIND, cases_of, compiled, made, needs, run
 
 HERE = Path(__file__).parent
 SOURCES = ["calls", "built", "remarks", "around", "mended"]
@@ -32,13 +32,13 @@ NAMED = [(name, test) for name in SOURCES for test in names(name)]
 
 @pytest.mark.parametrize("name, test", NAMED)
 def test_named(name, test):
-    run(compiled(source(name), *([] if test == MEMORY else SANITIZED)), test, env=cases_of("examples"))
+    run(compiled(source(name), *([] if test == MEMORY else [*SANITIZED, *COUNTED])), test, env=cases_of("examples"))
 
 
 @pytest.mark.parametrize("part", cases.OTHERS)
 @pytest.mark.parametrize("name", ["calls", "remarks", "around", "mended"])
 def test_others(name, part):
-    run(compiled(source(name), *SANITIZED), "each case", env=cases_of(part))
+    run(compiled(source(name), *SANITIZED, *COUNTED), "each case", env=cases_of(part))
 
 
 @needs("valgrind")
@@ -61,19 +61,20 @@ def test_the_builder_under_valgrind(test):
 def test_handles(handle):
     """Each is given back, and valgrind finds one that isn't."""
     all_kinds = ["--show-leak-kinds=all", "--errors-for-leak-kinds=all"]
-    run(*VALGRIND, *all_kinds, compiled(source("handles")), handle)
-    run(*VALGRIND, *all_kinds, compiled(source("handles")), handle, "forgetting", status=9)
+    program = compiled(source("handles"), *COUNTED)
+    run(*VALGRIND, *all_kinds, program, handle)
+    run(*VALGRIND, *all_kinds, program, handle, "forgetting", status=9)
 
 
-def with_allocator(name):
+def with_allocator(name, *words):
     """A program that refuses and counts its allocations."""
     folder = made("allocator", lambda path: (path.mkdir(), run(TOP / "tests/allocator/build", path)))
-    return compiled(source(name), f"-I{TOP}/tests/allocator", f"-L{folder}", "-lallocator", f"-Wl,-rpath,{folder}")
+    return compiled(source(name), f"-I{TOP}/tests/allocator", f"-L{folder}", "-lallocator", f"-Wl,-rpath,{folder}", *words)
 
 
 @pytest.mark.parametrize("test", names("refused"))
 def test_each_allocation_refused(test):
-    run(with_allocator("refused"), test, env=cases_of("examples"))
+    run(with_allocator("refused", *COUNTED), test, env=cases_of("examples"))
 
 
 @pytest.mark.parametrize("name", ["failed", "early"])

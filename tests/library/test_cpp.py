@@ -8,7 +8,7 @@ from pathlib import Path
 
 import cases
 import pytest
-from room import CXX, SANITIZED, TILES, TOP, VALGRIND, cases_of, compiled, needs, run
+from room import COUNTED, CXX, SANITIZED, TILES, TOP, VALGRIND, cases_of, compiled, needs, run
 
 pytestmark = needs("g++")
 HERE = Path(__file__).parent
@@ -24,7 +24,7 @@ def tile(name):
 
 @pytest.mark.parametrize("part", PARTS)
 def test_cases(part):
-    run(compiled(HERE / "cases.cpp"), env=cases_of(part))
+    run(compiled(HERE / "cases.cpp", *COUNTED), env=cases_of(part))
 
 
 @pytest.mark.parametrize("name", ["gdal", "postgis"])
@@ -40,7 +40,7 @@ def test_kinds():
 
 @pytest.mark.parametrize("test", OF_A_TILE)
 def test_with_sanitizers(test):
-    run(compiled(WRAPPED, *SANITIZED), test, input=tile("postgis"), text=False)
+    run(compiled(WRAPPED, *SANITIZED, *COUNTED), test, input=tile("postgis"), text=False)
 
 
 @needs("valgrind")

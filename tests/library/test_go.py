@@ -37,7 +37,8 @@ def test_vet():
 
 
 def test_its_own():
-    go("test", "./...", env=all_cases())
+    counted = [f"-coverprofile={os.environ['MVT_COUNTED']}/statements"] if "MVT_COUNTED" in os.environ else []
+    go("test", *counted, "./...", env=all_cases())
 
 
 @needs("pkg-config")
