@@ -1,5 +1,5 @@
-"""What of the Python module wants a process of its own: its memory, valgrind, the example of points, its types, and a clone in
-which nothing is built."""
+"""What of the Python module wants a process of its own: its memory, valgrind, the example of points, its types, a clone in which
+nothing is built, and a source distribution without a library."""
 
 import os
 import shutil
@@ -65,3 +65,20 @@ def test_before_it_is_built(tmp_path):
     shutil.copytree(TOP / "library/python/mvt", tmp_path / "mvt", ignore=shutil.ignore_patterns("_mvt.abi3.so"))
     told = run(sys.executable, "-c", "import mvt", status=1, env={**os.environ, "PYTHONPATH": str(tmp_path)})
     assert "library/build" in told.stderr.splitlines()[-1]
+
+
+@needs("cc")
+@pytest.mark.parametrize("folder, told", [(None, "libmvt isn't installed here"), ("empty", "empty has no libmvt.a"), ("bare", "bare has no mvt.h")])
+def test_a_source_distribution_without_a_library(tmp_path, folder, told):
+    """One line says what to name."""
+    if not folder and not subprocess.run(["cc", "-E", "-include", "mvt.h", "-x", "c", os.devnull], capture_output=True).returncode:
+        pytest.skip("libmvt is installed here")
+    shutil.copytree(TOP / "library/python", tmp_path / "python", ignore=shutil.ignore_patterns("*.so"))
+    for name in ("empty", "bare"):
+        (tmp_path / name).mkdir()
+    (tmp_path / "bare/libmvt.a").touch()
+    environment = {name: value for name, value in os.environ.items() if name != "MVT_LIB_DIR"}
+    named = {"MVT_LIB_DIR": str(tmp_path / folder)} if folder else {}
+    ran = run(sys.executable, "-W", "ignore", "setup.py", "-q", "build_ext", status=1, cwd=tmp_path / "python", env={**environment, **named})
+    [line] = ran.stderr.splitlines()
+    assert f"{told}: MVT_LIB_DIR=FOLDER names the folder of libmvt.a and mvt.h" in line
