@@ -93,6 +93,23 @@ def test_copyright(name):
     assert contents(path, "copyright") == [(TOP / "packaging/debian/copyright").read_text()]
 
 
+def test_names(tmp_path):
+    """All names come from packaging/names, or from the file that $NAMES names."""
+    names = 'repository=https://maps.test/mvt\nmaintainer="A B <a@maps.test>"\ngo_module=maps.test/mvt/go\n'
+    (tmp_path / "names").write_text(names)
+    run(TOP / "packaging/build", tmp_path / "made", env={**os.environ, "NAMES": str(tmp_path / "names")})
+    [codec] = (tmp_path / "made").glob("libmvt-*.tar.gz")
+    assert all("\nProject-URL: Repository, https://maps.test/mvt\n" in told for told in contents(codec, "PKG-INFO"))
+    [package] = (tmp_path / "made").glob("mvt_*.deb")
+    fields = run("dpkg-deb", "-f", package).stdout.splitlines()
+    assert {"Maintainer: A B <a@maps.test>", "Homepage: https://maps.test/mvt"} <= set(fields)
+    [module] = (tmp_path / "made/go/maps.test/mvt/go/@v").glob("*.zip")
+    assert contents(module, "go.mod")[0].startswith("module maps.test/mvt/go\n")
+    assert '"maps.test/mvt/go"' in contents(module, "guard.go")[0]
+    for crate in (tmp_path / "made").glob("*.crate"):
+        assert 'repository = "https://maps.test/mvt"' in contents(crate, "Cargo.toml")[0]
+
+
 # ---- installed
 
 
