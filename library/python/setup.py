@@ -26,9 +26,10 @@ class Build(build_ext):
     def _finds(self, header):
         """Whether the compiler finds it. What is wrong with a compiler is told when it is used."""
         folders = [*self.include_dirs, *self.extensions[0].include_dirs]
-        words = [*self.compiler.compiler_so, *(f"-I{folder}" for folder in folders), "-include", header]
+        words = [*self.compiler.compiler_so, *(f"-I{folder}" for folder in folders), "-E", "-x", "c", "-"]
+        asked = f"#if !__has_include(<{header}>)\nmissing\n#endif\n"
         try:
-            return subprocess.run([*words, "-E", "-x", "c", os.devnull], capture_output=True).returncode == 0
+            return "missing" not in subprocess.run(words, input=asked, capture_output=True, text=True).stdout.splitlines()
         except OSError:
             return True
 
