@@ -142,7 +142,7 @@ class TestGeopandas:
             assert json.loads(json.dumps(made)) == [each["geometry"] for each in wanted]
 
     def test_polygons_of_many_rings(self):
-        """Some libraries write beyond their memory where a polygon has three holes."""
+        """With up to five holes, in one polygon and in several."""
         holes = [[(x, 2), (x, 4), (x + 2, 4), (x + 2, 2)] for x in range(2, 20, 4)]
         square = [(0, 0), (100, 0), (100, 100), (0, 100)]
         several = [[[square, *holes[:count]] for count in range(at % 6 + 1)] for at in range(100)]
