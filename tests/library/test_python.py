@@ -1,7 +1,8 @@
 """What of the Python module wants a process of its own: its memory, valgrind, the example of points, its types, a clone in which
-nothing is built, and a source distribution without a library."""
+nothing is built, a source distribution without a library, and the other Pythons of the machine."""
 
 import os
+import re
 import shutil
 import subprocess
 import sys
@@ -82,3 +83,21 @@ def test_a_source_distribution_without_a_library(tmp_path, folder, told):
     ran = run(sys.executable, "-W", "ignore", "setup.py", "-q", "build_ext", status=1, cwd=tmp_path / "python", env={**environment, **named})
     [line] = ran.stderr.splitlines()
     assert f"{told}: MVT_LIB_DIR=FOLDER names the folder of libmvt.a and mvt.h" in line
+
+
+def others():
+    """The other Pythons from 3.9 on, by their minor version: the system's, and those of pyenv."""
+    found = {}
+    for path in [*Path("/usr/bin").glob("python3.*"), *Path.home().glob(".pyenv/versions/3.*/bin/python")]:
+        named = re.fullmatch(r"/usr/bin/python3\.(\d+)|.*/versions/3\.(\d+)\.\d+/bin/python", str(path))
+        minor = int(named[1] or named[2]) if named else 0
+        if minor >= 9 and minor != sys.version_info.minor:
+            found.setdefault(minor, path)
+    return [pytest.param(path, id=f"3.{minor}") for minor, path in sorted(found.items())]
+
+
+@pytest.mark.parametrize("part", ["around", "building", "interpreters", "lifetimes", "mending", "module", "threads", "writing"])
+@pytest.mark.parametrize("python", others())
+def test_by_another_python(python, part):
+    """One extension serves each, without numpy and pytest."""
+    run(python, HERE / f"test_{part}.py")
