@@ -25,7 +25,7 @@ def to_geopandas(layer: Union[Layer, Frame], z: int, x: int, y: int, decimals: i
     while column in frame.columns:
         column = "_" + column
     made = numpy.full(len(frame), None, object)
-    is_new = hasattr(shapely, "from_ragged_array")
+    is_new = hasattr(shapely, "linearrings")
     if frame.extent:
         makers = (_objects, _collections) if is_new else (_binaries, _joined)
         _fill(made, frame.shapes, _degrees(frame, (z, x, y), decimals), makers)
