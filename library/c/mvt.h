@@ -277,7 +277,7 @@ mvt_status mvt_lint_rows(const uint8_t *bytes, size_t len, mvt_findings *out, mv
 
 /* A tile as rows, whose nine lists together have at most `most` bytes; UINT64_MAX is no bound. Beyond it the status is
  * MVT_NO_MEMORY, which is checked after each key, value, feature and layer, so a small tile with many rows ends early: a tile
- * of 4 MB can have 260 MB of rows. A growing list doubles, and takes up to three times its bytes for a moment.
+ * of 4 MB can have 128 MB of rows. A growing list doubles, and takes up to three times its bytes for a moment.
  * MVT_OK, MVT_REFUSED, MVT_NO_MEMORY. */
 mvt_status mvt_read(const uint8_t *bytes, size_t len, uint64_t most, mvt_tile *out, mvt_fault *fault);
 

@@ -1,11 +1,6 @@
-//go:build !mvt_system
+//go:build cgo && !mvt_system && linux && amd64
 
 package mvt
 
 // The module has the library for Linux on amd64 in it. With the tag mvt_system it is the one that pkg-config finds.
-
-/*
-#cgo CFLAGS: -I${SRCDIR}
-#cgo linux,amd64 LDFLAGS: ${SRCDIR}/libmvt_linux_amd64.a
-*/
-import "C"
+const _ = archiveThatLibraryBuildMakes

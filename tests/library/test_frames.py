@@ -2,6 +2,7 @@
 
 import json
 import math
+import warnings
 from pathlib import Path
 
 import pytest
@@ -118,7 +119,10 @@ class TestFrames:
 class TestGeopandas:
     @pytest.fixture(scope="class", autouse=True)
     def there(self):
-        pytest.importorskip("geopandas", reason="geopandas isn't there")
+        with warnings.catch_warnings():
+            # It warns of what it imports itself.
+            warnings.simplefilter("ignore")
+            pytest.importorskip("geopandas", reason="geopandas isn't there")
 
     def test_it_is_what_to_geojson_makes(self):
         lines = [[(0, 0), (5, 5)], [(1, 1), (2, 2), (3, 1)]]
@@ -136,6 +140,16 @@ class TestGeopandas:
             assert found["k"].tolist() == ["x", "y", None, None, None, None, None]
             made = [None if each is None else each.__geo_interface__ for each in found.geometry]
             assert json.loads(json.dumps(made)) == [each["geometry"] for each in wanted]
+
+    def test_polygons_of_many_rings(self):
+        """With up to five holes, in one polygon and in several."""
+        holes = [[(x, 2), (x, 4), (x + 2, 4), (x + 2, 2)] for x in range(2, 20, 4)]
+        square = [(0, 0), (100, 0), (100, 100), (0, 100)]
+        several = [[[square, *holes[:count]] for count in range(at % 6 + 1)] for at in range(100)]
+        features = [mvt.Feature(at, {}, "polygons", polygons) for at, polygons in enumerate(several)]
+        wanted = mvt.to_geojson(mvt.Tile([mvt.Layer("a", 4096, features)]), *PLACE)["features"]
+        made = [each.__geo_interface__ for each in mvt.to_geopandas(frame_of(*features), *PLACE).geometry]
+        assert json.loads(json.dumps(made)) == [each["geometry"] for each in wanted]
 
     def test_shapes_are_whole(self):
         [made] = mvt.to_geopandas(frame_of(mvt.Feature(None, {}, "polygons", [[RING, HOLE]])), *PLACE).geometry

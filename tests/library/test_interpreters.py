@@ -1,4 +1,5 @@
-"""Two interpreters of one process have the module at a time, and one goes on when the other has ended."""
+"""Two interpreters of one process have the module at a time, and one goes on when the other has ended: those that share one
+lock, and from Python 3.12 on those that have a lock of their own."""
 
 import sys
 import unittest
@@ -8,9 +9,12 @@ from pathlib import Path
 import mvt
 
 try:
-    import _xxsubinterpreters as interpreters
+    import _interpreters as interpreters
 except ImportError:
-    interpreters = None
+    try:
+        import _xxsubinterpreters as interpreters
+    except ImportError:
+        interpreters = None
 
 TILES = Path(__file__).resolve().parents[2] / "fixtures" / "tiles"
 TILE = (TILES / "gdal.mvt").read_bytes()
@@ -70,29 +74,43 @@ assert decoder.finish() == whole and [rows.text(layer.name) for layer in rows.la
 """
 
 
-@unittest.skipIf(interpreters is None, "this Python makes no interpreters")
-class Two(unittest.TestCase):
+def created(has_lock):
+    """An interpreter. Before 3.13 one is told whether it is isolated, and from then on the kind is named."""
+    if sys.version_info >= (3, 13):
+        return interpreters.create("isolated" if has_lock else "legacy")
+    return interpreters.create(isolated=has_lock)
+
+
+def run_in(interpreter, code):
+    """Before 3.13 a failure is raised, and from then on answered."""
+    if failed := interpreters.run_string(interpreter, code):
+        raise AssertionError(failed.errdisplay)
+
+
+class Two:
+    has_lock = False
+
     def begun(self):
         """An interpreter that has the module."""
-        made = interpreters.create(isolated=False)
+        made = created(self.has_lock)
         told = {"path": sys.path, "tile": TILE, "canonical": CANONICAL, "broken": BROKEN, "rows": id(mvt.Rows), "refused": id(mvt.Refused)}
-        interpreters.run_string(made, BEGIN.format(**told))
+        run_in(made, BEGIN.format(**told))
         return made
 
     def test_at_a_time(self):
         whole, rows = mvt.read(TILE), mvt.rows(TILE)
         first, second = self.begun(), self.begun()
         with ThreadPoolExecutor(2) as threads:
-            at_work = [threads.submit(interpreters.run_string, each, WORK) for each in (first, second)]
+            at_work = [threads.submit(run_in, each, WORK) for each in (first, second)]
             for _ in range(40):
                 self.assertEqual(mvt.write(mvt.read(TILE)), CANONICAL)
             for each in at_work:
                 each.result()
             # one ends while the other works
-            at_work = threads.submit(interpreters.run_string, second, WORK)
+            at_work = threads.submit(run_in, second, WORK)
             interpreters.destroy(first)
             at_work.result()
-        interpreters.run_string(second, END)
+        run_in(second, END)
         self.assertEqual(mvt.read(TILE), whole)
         interpreters.destroy(second)
         self.assertEqual([mvt.write(rows), mvt.write(whole)], [CANONICAL, CANONICAL])
@@ -102,9 +120,19 @@ class Two(unittest.TestCase):
     def test_one_after_another(self):
         for _ in range(10):
             made = self.begun()
-            interpreters.run_string(made, END)
+            run_in(made, END)
             interpreters.destroy(made)
         self.assertEqual(mvt.write(mvt.read(TILE)), CANONICAL)
+
+
+@unittest.skipIf(interpreters is None, "this Python makes no interpreters")
+class OneLock(Two, unittest.TestCase):
+    pass
+
+
+@unittest.skipIf(interpreters is None or sys.version_info < (3, 12), "interpreters have one lock before Python 3.12")
+class OwnLocks(Two, unittest.TestCase):
+    has_lock = True
 
 
 if __name__ == "__main__":

@@ -3,11 +3,14 @@ repository the tarball, the wheels, the source distributions, the crates and the
 the other: what is installed is for the whole machine."""
 
 import gzip
+import io
 import os
 import re
 import shutil
 import subprocess
 import sys
+import tarfile
+import zipfile
 from pathlib import Path
 
 import pytest
@@ -58,6 +61,53 @@ def test_the_same_bytes_again(tmp_path):
 def test_lintian():
     told = subprocess.run(["lintian", *packages().glob("*.deb")], capture_output=True, text=True).stdout
     assert not [line for line in told.splitlines() if line.startswith(("E:", "W:"))]
+
+
+# ---- what others have written
+
+
+def contents(path, name):
+    """Of an archive, the files of a name."""
+    if zipfile.is_zipfile(path):
+        with zipfile.ZipFile(path) as files:
+            return [files.read(each).decode() for each in files.namelist() if each.endswith(f"/{name}")]
+    packed = run("dpkg-deb", "--fsys-tarfile", path, text=False).stdout if path.suffix == ".deb" else path.read_bytes()
+    with tarfile.open(fileobj=io.BytesIO(packed)) as files:
+        return [files.extractfile(each).read().decode() for each in files if each.isfile() and each.name.endswith(f"/{name}")]
+
+
+@pytest.mark.parametrize("pattern", ["mvt-*.tar.gz", "libmvt-*.whl", "libmvt-*.tar.gz", "mvt-sys-*.crate", "go/**/*.zip"])
+def test_notices(pattern):
+    """What has the library in it has the notices of the code that is linked."""
+    found = [path for path in packages().glob(pattern) if not path.name.startswith("mvt-tools")]
+    if not found and pattern.endswith((".crate", ".whl")):
+        pytest.skip("they weren't made")
+    for path in found:
+        assert set(contents(path, "THIRD-PARTY.md")) == {(TOP / "THIRD-PARTY.md").read_text()}, path
+    assert found
+
+
+@pytest.mark.parametrize("name", NAMES)
+def test_copyright(name):
+    [path] = packages().glob(f"{name}_*.deb")
+    assert contents(path, "copyright") == [(TOP / "packaging/debian/copyright").read_text()]
+
+
+def test_names(tmp_path):
+    """All names come from packaging/names, or from the file that $NAMES names."""
+    names = 'repository=https://maps.test/mvt\nmaintainer="A B <a@maps.test>"\ngo_module=maps.test/mvt/go\n'
+    (tmp_path / "names").write_text(names)
+    run(TOP / "packaging/build", tmp_path / "made", env={**os.environ, "NAMES": str(tmp_path / "names")})
+    [codec] = (tmp_path / "made").glob("libmvt-*.tar.gz")
+    assert all("\nProject-URL: Repository, https://maps.test/mvt\n" in told for told in contents(codec, "PKG-INFO"))
+    [package] = (tmp_path / "made").glob("mvt_*.deb")
+    fields = run("dpkg-deb", "-f", package).stdout.splitlines()
+    assert {"Maintainer: A B <a@maps.test>", "Homepage: https://maps.test/mvt"} <= set(fields)
+    [module] = (tmp_path / "made/go/maps.test/mvt/go/@v").glob("*.zip")
+    assert contents(module, "go.mod")[0].startswith("module maps.test/mvt/go\n")
+    assert '"maps.test/mvt/go"' in contents(module, "guard.go")[0]
+    for crate in (tmp_path / "made").glob("*.crate"):
+        assert 'repository = "https://maps.test/mvt"' in contents(crate, "Cargo.toml")[0]
 
 
 # ---- installed

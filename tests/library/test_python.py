@@ -1,7 +1,8 @@
-"""What of the Python module wants a process of its own: its memory, valgrind, the example of points, its types, and a clone in
-which nothing is built."""
+"""What of the Python module wants a process of its own: its memory, valgrind, the example of points, its types, a clone in which
+nothing is built, a source distribution without a library, and the other Pythons of the machine."""
 
 import os
+import re
 import shutil
 import subprocess
 import sys
@@ -65,3 +66,38 @@ def test_before_it_is_built(tmp_path):
     shutil.copytree(TOP / "library/python/mvt", tmp_path / "mvt", ignore=shutil.ignore_patterns("_mvt.abi3.so"))
     told = run(sys.executable, "-c", "import mvt", status=1, env={**os.environ, "PYTHONPATH": str(tmp_path)})
     assert "library/build" in told.stderr.splitlines()[-1]
+
+
+@needs("cc")
+@pytest.mark.parametrize("folder, told", [(None, "libmvt isn't installed here"), ("empty", "empty has no libmvt.a"), ("bare", "bare has no mvt.h")])
+def test_a_source_distribution_without_a_library(tmp_path, folder, told):
+    """One line says what to name."""
+    if not folder and not subprocess.run(["cc", "-E", "-include", "mvt.h", "-x", "c", os.devnull], capture_output=True).returncode:
+        pytest.skip("libmvt is installed here")
+    shutil.copytree(TOP / "library/python", tmp_path / "python", ignore=shutil.ignore_patterns("*.so"))
+    for name in ("empty", "bare"):
+        (tmp_path / name).mkdir()
+    (tmp_path / "bare/libmvt.a").touch()
+    environment = {name: value for name, value in os.environ.items() if name != "MVT_LIB_DIR"}
+    named = {"MVT_LIB_DIR": str(tmp_path / folder)} if folder else {}
+    ran = run(sys.executable, "-W", "ignore", "setup.py", "-q", "build_ext", status=1, cwd=tmp_path / "python", env={**environment, **named})
+    [line] = ran.stderr.splitlines()
+    assert f"{told}: MVT_LIB_DIR=FOLDER names the folder of libmvt.a and mvt.h" in line
+
+
+def others():
+    """The other Pythons from 3.9 on, by their minor version: the system's, and those of pyenv."""
+    found = {}
+    for path in [*Path("/usr/bin").glob("python3.*"), *Path.home().glob(".pyenv/versions/3.*/bin/python")]:
+        named = re.fullmatch(r"/usr/bin/python3\.(\d+)|.*/versions/3\.(\d+)\.\d+/bin/python", str(path))
+        minor = int(named[1] or named[2]) if named else 0
+        if minor >= 9 and minor != sys.version_info.minor:
+            found.setdefault(minor, path)
+    return [pytest.param(path, id=f"3.{minor}") for minor, path in sorted(found.items())]
+
+
+@pytest.mark.parametrize("part", ["around", "building", "interpreters", "lifetimes", "mending", "module", "threads", "writing"])
+@pytest.mark.parametrize("python", others())
+def test_by_another_python(python, part):
+    """One extension serves each, without numpy and pytest."""
+    run(python, HERE / f"test_{part}.py")

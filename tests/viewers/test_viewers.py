@@ -72,8 +72,7 @@ def by_rust():
 def by_go():
     def make(path):
         shutil.copytree(TOP / "library/go", path)
-        shutil.copy(BUILT / "mvt.h", path)
-        shutil.copy(BUILT / "libmvt.a", path / "libmvt_linux_amd64.a")
+        run(TOP / "library/bundle-go", BUILT, path)
         (path / "built").mkdir()
         shutil.copy(HERE / "built.go", path / "built")
 

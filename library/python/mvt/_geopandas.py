@@ -1,21 +1,19 @@
 """Layers as the frames of geopandas, where it is there."""
 
 import struct
-from typing import Any, Callable, Dict, Iterable, Iterator, List, Optional, Tuple, Union
+from typing import Any, Callable, Iterator, List, Tuple, Union
 
 import numpy
-from geopandas import GeoDataFrame  # type: ignore[import]
-from geopandas._compat import USE_PYGEOS  # type: ignore[import]
-from geopandas.array import GeometryArray, from_wkb  # type: ignore[import]
-from shapely import geometry as shapes_of, geos  # type: ignore[import]
+import shapely  # type: ignore[import]
+from geopandas import GeoDataFrame, GeoSeries  # type: ignore[import]
 
 from ._frames import Array, Frame, Shapes, frame_of_layer
 from ._tiles import Layer
 from .mercator import latitude_of, longitude_of
 
 CRS = "EPSG:4326"
-# The types of well-known binary: a single one, and several.
-_POINT, _LINE, _POLYGON, _POINTS, _LINES, _POLYGONS = range(1, 7)
+# The kinds of features. Well-known binary has these numbers for a single geometry, and three more for several.
+_POINTS, _LINES, _POLYGONS = 1, 2, 3
 
 
 def to_geopandas(layer: Union[Layer, Frame], z: int, x: int, y: int, decimals: int) -> Any:
@@ -23,14 +21,17 @@ def to_geopandas(layer: Union[Layer, Frame], z: int, x: int, y: int, decimals: i
     if not (0 <= z <= 30 and isinstance(x, int) and isinstance(y, int)):
         raise ValueError("a tile's place is a zoom up to 30, a column and a row")
     frame = layer if isinstance(layer, Frame) else frame_of_layer(layer)
-    located = _degrees(frame, (z, x, y), decimals) if frame.extent else None
-    shapes: Iterable[Optional[bytes]] = [None] * len(frame) if located is None else _shapes(frame.shapes, located)
     column = "geometry"
     while column in frame.columns:
         column = "_" + column
-    columns: Dict[str, Any] = {**frame.columns, column: _made(list(shapes))}
+    made = numpy.full(len(frame), None, object)
+    is_new = hasattr(shapely, "linearrings")
+    if frame.extent:
+        makers = (_objects, _collections) if is_new else (_binaries, _joined)
+        _fill(made, frame.shapes, _degrees(frame, (z, x, y), decimals), makers)
+    geometries = (GeoSeries if is_new else GeoSeries.from_wkb)(made, crs=CRS).array
     index = frame.ids if len(frame) and frame.has_id.all() else None
-    return GeoDataFrame(columns, index=index, geometry=column)
+    return GeoDataFrame({**frame.columns, column: geometries}, index=index, geometry=column)
 
 
 def _degrees(frame: Frame, place: Tuple[int, int, int], decimals: int) -> Array:
@@ -53,101 +54,98 @@ def _each(numbers: Array, function: Callable[[int], float]) -> Array:
     return numpy.array([function(number) for number in different.tolist()], float)[again]
 
 
-def _laid(shapes: Shapes) -> Tuple[Array, Array]:
-    """The points, part by part, as well-known binary wants them, by index, and where each part begins. Rings are closed,
-    and turned round, since y goes up on a map."""
-    of_feature = numpy.repeat(shapes.kinds, numpy.diff(shapes.parts))
-    begins, ends, rings = shapes.starts[:-1], shapes.starts[1:], of_feature == 3
-    counts = ends - begins
-    first, last = shapes.points[begins[rings]], shapes.points[ends[rings] - 1]
+def _laid(shapes: Shapes, is_ring: Array) -> Tuple[Array, Array]:
+    """The points as a map wants them, by index, and how many each part has. Rings are closed, and turned round, since y
+    goes up on a map."""
+    begins, counts = shapes.starts[:-1], numpy.diff(shapes.starts)
+    rings = numpy.flatnonzero(is_ring & (counts > 0))
+    first, last = shapes.points[begins[rings]], shapes.points[begins[rings] + counts[rings] - 1]
     is_open = numpy.zeros(len(counts), bool)
     is_open[rings] = ~((first == last).all(axis=1) & (counts[rings] > 3))
-    starts = numpy.zeros(len(counts) + 1, numpy.int64)
-    numpy.cumsum(counts + is_open, out=starts[1:])
-    within = numpy.arange(starts[-1]) - numpy.repeat(starts[:-1], counts + is_open)
-    base = numpy.where(rings, ends - 1 + is_open, begins)
-    at = numpy.repeat(base, counts + is_open) + numpy.where(numpy.repeat(rings, counts + is_open), -within, within)
-    at[starts[:-1][is_open]] = begins[is_open]
-    return at, starts
+    lengths = counts + is_open
+    owner = numpy.repeat(numpy.arange(len(lengths)), lengths)
+    within = numpy.arange(len(owner)) - _offsets(lengths)[owner]
+    turned = (lengths[owner] - 1 - within) % counts[owner]
+    return begins[owner] + numpy.where(is_ring[owner], turned, within), lengths
 
 
-def _shapes(shapes: Shapes, located: Array) -> Iterable[Optional[bytes]]:
-    """Each geometry as well-known binary. In many layers each is one point."""
-    if len(located) != len(shapes.kinds) or not (shapes.kinds == 1).all():
-        return _binaries(shapes, located)
-    made = numpy.zeros(len(located), [("order", "u1"), ("kind", "<u4"), ("x", "<f8"), ("y", "<f8")])
-    made["order"], made["kind"], made["x"], made["y"] = 1, _POINT, located[:, 0], located[:, 1]
-    content, size = made.tobytes(), made.itemsize
-    return [content[at : at + size] for at in range(0, len(content), size)]
+def _offsets(lengths: Array) -> Array:
+    """Where each of a series begins, and where the last ends."""
+    return numpy.concatenate([[0], numpy.cumsum(lengths)]).astype(numpy.int64)
 
 
-def _binaries(shapes: Shapes, located: Array) -> Iterator[Optional[bytes]]:
-    at, starts = _laid(shapes)
-    places: Array = located[at]
-    pairs, offsets = memoryview(places.tobytes()), (16 * starts).tolist()
-    exterior, parts = shapes.exterior.tolist(), shapes.parts.tolist()
-
-    def listed(part: int) -> bytes:
-        """The points of a part, and before them how many there are."""
-        begin, end = offsets[part], offsets[part + 1]
-        return struct.pack("<I", (end - begin) // 16) + pairs[begin:end]
-
-    for kind, begin, end in zip(shapes.kinds.tolist(), parts, parts[1:]):
-        if kind == 1:
-            yield _points(pairs[offsets[begin] : offsets[end]])
-        elif kind == 2:
-            yield _several(_LINE, [listed(part) for part in range(begin, end)])
-        elif kind == 3:
-            yield _several(_POLYGON, _polygons(listed, exterior, begin, end))
-        else:
-            yield None
+def _fill(made: Array, shapes: Shapes, located: Array, makers: Tuple[Callable[..., Array], Callable[..., Array]]) -> None:
+    """Puts in each geometry; of an unknown kind there is none. One maker makes single points, lines or polygons of places, and
+    the other one geometry of the single ones of a feature that has several."""
+    single, several = makers
+    owners = numpy.repeat(numpy.arange(len(made)), numpy.diff(shapes.parts))
+    kinds = shapes.kinds[owners]
+    at, lengths = _laid(shapes, kinds == _POLYGONS)
+    places, leads = located[at], shapes.exterior | (numpy.diff(owners, prepend=-1) != 0)
+    for kind in (_POINTS, _LINES, _POLYGONS):
+        chosen = kinds == kind
+        of, offsets = _singles(kind, owners[chosen], lengths[chosen], leads[chosen])
+        if not len(of):
+            continue
+        pieces = single(kind, places[numpy.repeat(chosen, lengths)], offsets)
+        alone = numpy.bincount(of)[of] == 1
+        made[of[alone]] = pieces[alone]
+        features, groups = numpy.unique(of[~alone], return_inverse=True)
+        made[features] = several(kind, pieces[~alone], groups)
 
 
-def _points(pairs: memoryview) -> bytes:
-    each = [bytes(pairs[at : at + 16]) for at in range(0, len(pairs), 16)]
-    return _several(_POINT, each)
+def _singles(kind: int, owners: Array, lengths: Array, leads: Array) -> Tuple[Array, List[Array]]:
+    """The features that single points, lines or polygons belong to; where the points of each line or ring begin, and where the
+    rings of each polygon do. Given are the feature and the length of each part, and whether it begins a polygon."""
+    if kind == _POINTS:
+        return numpy.repeat(owners, lengths), []
+    if kind == _LINES:
+        return owners, [_offsets(lengths)]
+    begins = numpy.flatnonzero(leads)
+    return owners[begins], [_offsets(lengths), numpy.append(begins, len(leads))]
 
 
-def _polygons(listed: Callable[[int], bytes], exterior: List[bool], begin: int, end: int) -> List[bytes]:
-    """The rings of each polygon, and before them how many there are."""
-    first = [part for part in range(begin, end) if exterior[part]]
-    return [
-        struct.pack("<I", behind - part) + b"".join(map(listed, range(part, behind)))
-        for part, behind in zip(first, [*first[1:], end])
-    ]
+def _objects(kind: int, places: Array, offsets: List[Array]) -> Array:
+    """Points, lines or polygons of shapely 2. Its `from_ragged_array` isn't used: that of shapely 2.1.0 writes beyond its
+    memory where a polygon has three holes."""
+    if kind == _POINTS:
+        return shapely.points(places)
+    of = _owners(offsets[0])
+    if kind == _LINES:
+        return shapely.linestrings(places, indices=of)
+    return shapely.polygons(shapely.linearrings(places, indices=of), indices=_owners(offsets[1]))
 
 
-def _several(kind: int, each: List[bytes]) -> bytes:
-    """One, or several of a kind."""
-    head = struct.pack("<BI", 1, kind)
-    if len(each) == 1:
-        return head + each[0]
-    return struct.pack("<BII", 1, kind + 3, len(each)) + b"".join(head + one for one in each)
+def _owners(offsets: Array) -> Array:
+    """Of each of a series in which parts begin at the offsets, the number of its part."""
+    return numpy.repeat(numpy.arange(len(offsets) - 1), numpy.diff(offsets))
 
 
-def _made(binaries: List[Optional[bytes]]) -> Any:
-    """Geometries in an array of geopandas. Shapely 1 reads one at a time, and here, as in geopandas itself, without what it
-    does for each object that is changed."""
-    reader = getattr(geos, "WKBReader", None)
-    if reader is None or USE_PYGEOS:
-        return from_wkb(binaries, crs=CRS)
-    held, new = reader(geos.lgeos), object.__new__
-    read, handle = geos.lgeos.GEOSWKBReader_read, held._reader
-    made = numpy.empty(len(binaries), object)
-    for at, binary in enumerate(binaries):
-        if binary is not None:
-            made[at] = one = new(_CLASSES[binary[1]])
-            own = one.__dict__
-            own["__geom__"], own["_is_empty"], own["_ndim"] = read(handle, binary, len(binary)), False, 2
-    return GeometryArray(made, crs=CRS)
+def _collections(kind: int, pieces: Array, groups: Array) -> Array:
+    makers = {_POINTS: shapely.multipoints, _LINES: shapely.multilinestrings, _POLYGONS: shapely.multipolygons}
+    return makers[kind](pieces, indices=groups)
 
 
-_CLASSES: Tuple[Any, ...] = (
-    None,
-    shapes_of.Point,
-    shapes_of.LineString,
-    shapes_of.Polygon,
-    shapes_of.MultiPoint,
-    shapes_of.MultiLineString,
-    shapes_of.MultiPolygon,
-)
+def _binaries(kind: int, places: Array, offsets: List[Array]) -> Array:
+    """The same as well-known binary, for shapely 1."""
+    head, pairs = struct.pack("<BI", 1, kind), places.tobytes()
+    ends = (16 * offsets[0]).tolist() if offsets else range(0, len(pairs) + 1, 16)
+    made = [pairs[begin:end] for begin, end in zip(ends, ends[1:])]
+    if kind != _POINTS:
+        made = [struct.pack("<I", len(each) // 16) + each for each in made]
+    if kind == _POLYGONS:
+        rings, begins = made, offsets[1].tolist()
+        made = [struct.pack("<I", end - begin) + b"".join(rings[begin:end]) for begin, end in zip(begins, begins[1:])]
+    return _array(head + each for each in made)
+
+
+def _joined(kind: int, pieces: Array, groups: Array) -> Array:
+    several = numpy.split(pieces, numpy.flatnonzero(numpy.diff(groups)) + 1) if len(pieces) else []
+    return _array(struct.pack("<BII", 1, kind + 3, len(each)) + b"".join(each) for each in several)
+
+
+def _array(binaries: Iterator[bytes]) -> Array:
+    listed = list(binaries)
+    made = numpy.empty(len(listed), object)
+    made[:] = listed
+    return made

@@ -5,18 +5,37 @@ static int execute(PyObject *module);
 static int traverse(PyObject *module, visitproc visit, void *arg);
 static int clear(PyObject *module);
 
-static PyModuleDef_Slot SLOTS[] = {{Py_mod_exec, execute}, {0, NULL}};
-static PyModuleDef MODULE = {
-    PyModuleDef_HEAD_INIT,
-    .m_name = "mvt._mvt",
-    .m_doc = "The proved library, for the module mvt.",
-    .m_size = sizeof(state),
-    .m_slots = SLOTS,
-    .m_traverse = traverse,
-    .m_clear = clear,
-};
+/* Interpreters share nothing of the module, so each may have a lock of its own. Python knows the word for it since 3.12, and
+ * refuses words that it doesn't know. The numbers are those of moduleobject.h. */
+enum { MULTIPLE_INTERPRETERS = 3, OWN_LOCK = 2 };
+static PyModuleDef_Slot SLOTS[] = {{Py_mod_exec, execute}, {MULTIPLE_INTERPRETERS, (void *)OWN_LOCK}, {0, NULL}};
+static PyModuleDef_Slot FORMER_SLOTS[] = {{Py_mod_exec, execute}, {0, NULL}};
 
-PyMODINIT_FUNC PyInit__mvt(void) { return PyModuleDef_Init(&MODULE); }
+#define MODULE_OF(slots)                                  \
+    {                                                     \
+        PyModuleDef_HEAD_INIT,                            \
+        .m_name = "mvt._mvt",                             \
+        .m_doc = "The proved library, for the module mvt.", \
+        .m_size = sizeof(state),                          \
+        .m_slots = slots,                                 \
+        .m_traverse = traverse,                           \
+        .m_clear = clear,                                 \
+    }
+static PyModuleDef MODULE = MODULE_OF(SLOTS);
+static PyModuleDef FORMER_MODULE = MODULE_OF(FORMER_SLOTS);
+
+PyMODINIT_FUNC PyInit__mvt(void) {
+    PyObject *version = PySys_GetObject("hexversion");
+    const long number = version == NULL ? 0 : PyLong_AsLong(version);
+    if (number == -1 && PyErr_Occurred()) return NULL;
+    return PyModuleDef_Init(number >= 0x030C0000 ? &MODULE : &FORMER_MODULE);
+}
+
+static int is_this(PyObject *module) {
+    if (!PyModule_Check(module)) return 0;
+    const PyModuleDef *of = PyModule_GetDef(module);
+    return of == &MODULE || of == &FORMER_MODULE;
+}
 
 state *state_of_module(PyObject *module) { return PyModule_GetState(module); }
 
@@ -24,7 +43,7 @@ state *state_of_module(PyObject *module) { return PyModule_GetState(module); }
 state *state_of_type(PyTypeObject *type) {
     PyObject *module = PyObject_GetAttrString((PyObject *)type, "_module");
     if (module == NULL) return NULL;
-    state *of = PyModule_Check(module) && PyModule_GetDef(module) == &MODULE ? PyModule_GetState(module) : NULL;
+    state *of = is_this(module) ? PyModule_GetState(module) : NULL;
     if (of == NULL) PyErr_SetString(PyExc_TypeError, "the class's attribute _module isn't what it was");
     Py_DECREF(module);
     return of;

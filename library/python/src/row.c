@@ -58,11 +58,12 @@ static char *write_format(char *to, const field *fields, size_t size) {
     return to + sprintf(to, "}");
 }
 
-const char *row_format(int kind) {
-    static char formats[ROWS][FORMAT_ROOM];
-    if (formats[kind][0] == 0) write_format(formats[kind], STRUCTURES[kind].fields, STRUCTURES[kind].size);
-    return formats[kind];
-}
+/* What all interpreters read of each kind of row. It is written when the extension is loaded, and never again. */
+static char FORMATS[ROWS][FORMAT_ROOM];
+static Py_ssize_t SIZES[ROWS];
+static PyGetSetDef GETSETS[ROWS][MOST_FIELDS];
+
+const char *row_format(int kind) { return FORMATS[kind]; }
 
 PyObject *new_row(state *of, int kind, PyObject *owner, uint8_t *data, int is_fixed) {
     row *made = (row *)allocated(of->rows[kind]);
@@ -222,10 +223,8 @@ static PyObject *row_reduce(PyObject *self, PyObject *unused) {
 }
 
 static int row_lends(PyObject *self, buffer *out, int flags) {
-    static Py_ssize_t sizes[ROWS];
     const row *of = (row *)self;
-    sizes[of->kind] = (Py_ssize_t)STRUCTURES[of->kind].size;
-    return lend(out, flags, self, of->data, NULL, &sizes[of->kind], row_format(of->kind), of->is_fixed);
+    return lend(out, flags, self, of->data, NULL, &SIZES[of->kind], FORMATS[of->kind], of->is_fixed);
 }
 
 static PyMethodDef ROW_METHODS[] = {{"__reduce__", row_reduce, METH_NOARGS, NULL}, {NULL, NULL, 0, NULL}};
@@ -241,18 +240,27 @@ static PyObject *fields_of(const state *of, int kind) {
     return told;
 }
 
+static void write_getsets(PyGetSetDef *to, const field *fields) {
+    for (; fields->name != NULL; ++fields)
+        *to++ = (PyGetSetDef){fields->name, get_field, set_field, NULL, (void *)fields};
+}
+
+__attribute__((constructor)) static void write_shared(void) {
+    for (int kind = 0; kind < ROWS; ++kind) {
+        write_format(FORMATS[kind], STRUCTURES[kind].fields, STRUCTURES[kind].size);
+        write_getsets(GETSETS[kind], STRUCTURES[kind].fields);
+        SIZES[kind] = (Py_ssize_t)STRUCTURES[kind].size;
+    }
+}
+
 static PyObject *row_type(int kind) {
-    static PyGetSetDef getsets[ROWS][MOST_FIELDS];
-    const field *fields = STRUCTURES[kind].fields;
-    for (int at = 0; fields[at].name != NULL; ++at)
-        getsets[kind][at] = (PyGetSetDef){fields[at].name, get_field, set_field, NULL, (void *)&fields[at]};
     PyType_Slot slots[] = {{Py_tp_new, row_new},
                            {Py_tp_dealloc, row_dealloc},
                            {Py_tp_repr, row_repr},
                            {Py_tp_richcompare, row_compare},
                            {Py_tp_hash, PyObject_HashNotImplemented},
                            {Py_tp_methods, ROW_METHODS},
-                           {Py_tp_getset, getsets[kind]},
+                           {Py_tp_getset, GETSETS[kind]},
                            {Py_tp_doc, (void *)STRUCTURES[kind].doc},
                            {SLOT_GETBUFFER, row_lends},
                            {0, NULL}};

@@ -179,7 +179,7 @@ def told(serving, said):
     return stores.opened(server.address + "/tiles.json", Options(timeout=60)).state()
 
 
-ADDRESSES = ["http://[/{z}/{x}/{y}", "http://[::1/{z}/{x}/{y}", "http://a:b/{z}/{x}/{y}", "http://a:99999999/{z}/{x}/{y}", 
+ADDRESSES = ["http://[/{z}/{x}/{y}", "http://[::1/{z}/{x}/{y}", "http://a:b/{z}/{x}/{y}", "http://a:99999999/{z}/{x}/{y}",
              "http://:80/{z}/{x}/{y}", "//[/{z}/{x}/{y}", "file:///etc/passwd?{z}{x}{y}", "data:,{z}{x}{y}", "javascript:{z}{x}{y}", "\x1b[2J{z}",
              "http://a\u2100b/{z}/{x}/{y}", "ftp://a/{z}/{x}/{y}", "x" * 100_000, ""]  # fmt: skip
 
