@@ -18,6 +18,7 @@ from mvt_tools.stores import StoreError
 from mvt_tools.stores.tile_ids import id_of, place_of
 
 TILE = b"\x1a\x04\x78\x02\x0a\x00"
+BROKEN = b"\x1a\x09"
 # The entry of the first tile.
 ONE = (0, 1, 0, len(TILE))
 # So many ids there are, of the zooms 0 to 31.
@@ -153,6 +154,50 @@ def test_a_bomb_of_a_directory_is_told(made):
         audited(made(archive(bomb, internal=2)))
 
 
+# ---- compressions
+
+
+@pytest.fixture
+def zstd():
+    """What packs by zstd, frame by frame."""
+    return pytest.importorskip("zstandard", reason="zstandard isn't there").compress
+
+
+def rows_of(made, stored, packed):
+    """The rows of an archive of one tile, as it lies there."""
+    return audited(made(archives.archive({(0, 0, 0): stored}, packed=packed)))
+
+
+def test_a_zstd_that_is_cut_off_is_told(made, zstd):
+    whole = zstd(TILE * 40)
+    for end in range(1, len(whole)):
+        [row] = rows_of(made, whole[:end], 4)
+        assert (row.verdict, row.notes) == ("not unpacked", "zstd: cut off"), end
+
+
+def test_a_zstd_of_several_frames_is_all_of_them(made, zstd):
+    skipped = b"\x50\x2a\x4d\x18\3\0\0\0abc"
+    [row] = rows_of(made, skipped + zstd(TILE) + zstd(b"") + zstd(BROKEN) + skipped, 4)
+    assert row.verdict == "refused"
+    assert unpacked(zstd(TILE) + skipped + zstd(BROKEN), 4, 1000) == TILE + BROKEN
+
+
+@pytest.mark.parametrize("behind", [b"\0", b"more", b"\x28\xb5\x2f\xfd"])
+def test_what_stands_behind_a_zstd_is_told(behind, made, zstd):
+    [row] = rows_of(made, zstd(TILE) + behind, 4)
+    assert row.verdict == "not unpacked" and row.notes.startswith("zstd: ")
+
+
+def test_more_frames_of_zstd_than_a_tile_has_are_told(made, zstd):
+    [row] = rows_of(made, zstd(b"") * 5000, 4)
+    assert (row.verdict, row.notes) == ("not unpacked", "zstd: more than 4,096 frames")
+
+
+def test_a_bomb_of_zstd_is_too_large(made, zstd):
+    [row] = rows_of(made, zstd(b"\x7a" + archives.varint((1 << 27) - 5) + bytes(1 << 27)), 4)
+    assert (row.verdict, row.cause_name) == ("refused", "TooLarge")
+
+
 # ---- any bytes at all
 
 
@@ -197,11 +242,12 @@ def test_any_entries_are_rows_or_refused(entries, addressed):
 
 
 @settings(max_examples=200, deadline=None)
-@given(make.binary(max_size=200), make.sampled_from([1, 2]))
+@given(make.binary(max_size=200), make.sampled_from([1, 2, 3, 4]))
 def test_any_bytes_unpack_or_are_refused(content, compression):
-    for stored in (content, gzip.compress(content)[: len(content)]):
+    for stored in (content, gzip.compress(content)[: len(content)], b"\x28\xb5\x2f\xfd" + content):
         try:
-            assert len(unpacked(stored, compression, 1000)) <= max(1000, len(stored))
+            # What one piece of a few bytes unpacks to is 8 MiB at most.
+            assert len(unpacked(stored, compression, 1000)) <= 1000 + (1 << 23)
         except ArchiveError:
             pass
 
