@@ -24,7 +24,7 @@ ONE = (0, 1, 0, len(TILE))
 # So many ids there are, of the zooms 0 to 31.
 PLACES = (4**32 - 1) // 3
 # Where the header says what.
-ROOT, LEAVES, TILES, ADDRESSED = 8, 40, 56, 72
+ROOT, METADATA, LEAVES, TILES, ADDRESSED = 8, 24, 40, 56, 72
 
 
 @pytest.fixture(autouse=True)
@@ -198,6 +198,47 @@ def test_a_bomb_of_zstd_is_too_large(made, zstd):
     assert (row.verdict, row.cause_name) == ("refused", "TooLarge")
 
 
+# ---- what an archive says of itself
+
+
+@pytest.mark.parametrize("said", [2**31, 2**40, 2**62, 2**63 - 1, 2**63, 2**64 - 1])
+def test_metadata_beyond_the_file_are_told(said, made):
+    for where in (METADATA, METADATA + 8):
+        path = made(changed(archive([ONE]), where, said))
+        assert verdicts(audited(path)) == {"0/0/0": "accepted"}
+        store = stores.opened(str(path))
+        store.check()
+        with pytest.raises(OSError, match="the metadata end at .*, and the file has"):
+            store.metadata()
+
+
+def test_metadata_of_a_terabyte_in_a_hole_are_told(made):
+    store = stores.opened(str(made(changed(archive([ONE]), METADATA + 8, 1 << 40), 1 << 41)))
+    store.check()
+    with pytest.raises(ValueError, match="its metadata have 1,099,511,627,776 bytes; 16,777,216 are the most"):
+        store.metadata()
+
+
+def with_metadata(made, content, internal=1):
+    """A store whose metadata are these bytes, as they lie there."""
+    whole = archive([ONE], internal=internal)
+    whole = changed(changed(whole, METADATA, len(whole)), METADATA + 8, len(content)) + content
+    store = stores.opened(str(made(whole)))
+    store.check()
+    return store
+
+
+def test_a_bomb_of_metadata_is_told(made):
+    with pytest.raises(ValueError, match="its metadata unpack to more than 16,777,216 bytes"):
+        with_metadata(made, gzip.compress(b"[" + b" " * 200_000_000 + b"]"), 2).metadata()
+
+
+@pytest.mark.parametrize("content", [b"[", b"[]", b"null", b"5", b"[" * 100_000, b"\xff\xfe", b"9" * 5000], ids=short)
+def test_metadata_that_are_no_object_are_told(content, made):
+    with pytest.raises(ValueError):
+        with_metadata(made, content).metadata()
+
+
 # ---- any bytes at all
 
 
@@ -250,6 +291,25 @@ def test_any_bytes_unpack_or_are_refused(content, compression):
             assert len(unpacked(stored, compression, 1000)) <= 1000 + (1 << 23)
         except ArchiveError:
             pass
+
+
+@settings(max_examples=200, deadline=None)
+@given(make.binary(max_size=100), make.booleans(), make.sampled_from([1, 2]), make.binary(min_size=24, max_size=24))
+def test_any_metadata_are_an_object_or_refused(content, is_object, internal, head):
+    said = b'{"minzoom": ' + content + b"}" if is_object else content
+    with tempfile.TemporaryDirectory() as room:
+        path = Path(room, "a.pmtiles")
+
+        def made(whole):
+            # Zooms, bounds and the centre.
+            path.write_bytes(whole[:100] + head + whole[124:])
+            return path
+
+        try:
+            found = with_metadata(made, gzip.compress(said) if internal == 2 else said, internal).metadata()
+        except (OSError, ValueError):
+            return
+        assert isinstance(found, dict) and set(found) >= {"minzoom", "maxzoom", "bounds"}
 
 
 @settings(max_examples=200, deadline=None)

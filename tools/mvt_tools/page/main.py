@@ -9,6 +9,7 @@ from contextlib import ExitStack
 from pathlib import Path
 from typing import Optional, Sequence, Tuple
 
+from .. import foreign
 from .._ending import UNREAD, USAGE, Output, bound_memory, of_system, say
 from .._given import Words
 from ..stores import server_options
@@ -43,9 +44,10 @@ def _parser() -> argparse.ArgumentParser:
 
 
 def _port(word: str) -> int:
-    if not word.isdecimal() or not 0 <= int(word) <= 65535:
+    port = foreign.whole(word, 0, 65535)
+    if port is None:
         raise argparse.ArgumentTypeError(f"{word!r} is no port, which is a number up to 65535")
-    return int(word)
+    return port
 
 
 def _fail(line: str, status: int) -> int:

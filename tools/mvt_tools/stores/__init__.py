@@ -10,6 +10,8 @@ from abc import ABC, abstractmethod
 from contextlib import closing
 from typing import Any, Callable, Dict, Iterator, List, NamedTuple, Optional, Sequence, Tuple, Union
 
+from .. import foreign
+
 # The modules of this package that have a kind of store, as their function `opened`.
 KINDS = ("server", "listed", "mbtiles", "pmtiles", "tree")
 GROUP = "mvt_tools.stores"
@@ -48,7 +50,7 @@ class Options(NamedTuple):
     north), how many requests there are at a time, and how many seconds one may take."""
 
     zooms: Optional[Tuple[int, int]] = None
-    bounds: Optional[Tuple[float, float, float, float]] = None
+    bounds: Optional[foreign.Degrees] = None
     requests: int = 8
     timeout: float = 30
 
@@ -169,7 +171,7 @@ def place_of(words: Sequence[str]) -> Optional[Tuple[int, int, int]]:
     """z, x and y of a tile, perhaps beyond the world, where some stores have tiles too; None where the words are no place."""
     if len(words) != 3 or not all(re.fullmatch("0|[1-9][0-9]{0,9}", word) for word in words):
         return None
-    z, x, y = map(int, words)
+    z, x, y = map(foreign.spelled, words)
     return (z, x, y) if z <= MOST_ZOOM else None
 
 

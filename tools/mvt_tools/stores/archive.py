@@ -6,6 +6,7 @@ import zlib
 from typing import Any, Iterator, NamedTuple, Tuple
 
 from .tile_ids import DEEPEST, first_of
+from .unpacking import MOST_MEMBERS
 
 MAGIC = b"PMTiles"
 HEADER = 127
@@ -23,8 +24,6 @@ _COMPRESSIONS = {NONE: "none", GZIP: "gzip", BROTLI: "brotli", ZSTD: "zstd"}
 _MODULES = {BROTLI: ("brotli", "python3-brotli of Debian"), ZSTD: ("zstandard", "python3-zstandard of Debian 12")}
 # Few enough that what they unpack to is some megabytes at most.
 _BROTLI_STEP, _ZSTD_STEP = 4, 256
-# A zstd of more frames is no tile's: an empty one has 9 bytes, and each costs time.
-_MOST_FRAMES = 4096
 _ENDLESS = 1 << 64
 _EARLIER_BYTES = bytes(range(128, 256))
 
@@ -38,6 +37,11 @@ class Section(NamedTuple):
 
     offset: int
     length: int
+
+    def check(self, what: str, size: int) -> None:
+        """Raises ArchiveError where it lies beyond a file of so many bytes."""
+        if sum(self) > size:
+            raise ArchiveError(f"the {what} end at {sum(self):,}, and the file has {size:,} bytes")
 
 
 class Header(NamedTuple):
@@ -70,8 +74,7 @@ class Header(NamedTuple):
             _check_compression(what, code)
         root, metadata, leaves, tiles = (Section(*numbers[at : at + 2]) for at in (0, 2, 4, 6))
         for what, section in (("root directory", root), ("leaf directories", leaves), ("tiles", tiles)):
-            if sum(section) > size:
-                raise ArchiveError(f"the {what} end at {sum(section):,}, and the file has {size:,} bytes")
+            section.check(what, size)
         west, south, east, north = bounds
         return cls(
             root, leaves, tiles, numbers[8], internal, compression, metadata, (first, last), (west, south, east, north)
@@ -183,12 +186,12 @@ def _unbrotlied(stream: Any, stored: bytes, most: int) -> bytes:
 def _unzstded(decompressor: Any, stored: bytes, most: int) -> bytes:
     """Of all frames, one behind the other."""
     made, end = bytearray(), 0
-    for _ in range(_MOST_FRAMES):
+    for _ in range(MOST_MEMBERS):
         frame, end = _frame(decompressor.decompressobj(), stored, end, most - len(made))
         made += frame
         if end == len(stored) or len(made) >= most:
             return bytes(made)
-    raise ArchiveError(f"zstd: more than {_MOST_FRAMES:,} frames")
+    raise ArchiveError(f"zstd: more than {MOST_MEMBERS:,} frames")
 
 
 def _frame(stream: Any, stored: bytes, at: int, most: int) -> Tuple[bytearray, int]:

@@ -3,15 +3,16 @@ within a zoom along Hilbert's curve."""
 
 import errno
 import hashlib
-import json
 import os
 from contextlib import contextmanager
 from functools import lru_cache, partial
 from typing import Any, BinaryIO, Callable, Dict, Iterator, List, NamedTuple, Optional, Tuple, Union
 
+from .. import foreign
+from ..bounds import SAID
 from . import Address, Content, Key, Options, State, Store, StoreError, files
 from .archive import GZIP, HEADER, MAGIC, MOST, MOST_TILES, NONE, ArchiveError, Directory, Entry, Header, Section, unpacked
-from .files import MOST_SAID, ReadAhead
+from .files import ReadAhead
 from .files import MOST as MOST_OF_A_TILE
 from .tile_ids import first_of, id_of, place_of
 from .unpacking import LIMIT, NotUnpacked
@@ -87,7 +88,7 @@ class PMTiles(Store):
         try:
             with self._reading() as file:
                 size, told = os.fstat(file.fileno()).st_size, os.fstat(file.fileno()).st_mtime_ns
-                front = os.pread(file.fileno(), HEADER, 0)
+                front = foreign.piece(file.fileno(), 0, HEADER)
                 tiles = self.header.addressed or self._counted(file)
         except OSError as why:
             raise StoreError(f"{self.path}: {why.strerror}") from why
@@ -128,11 +129,14 @@ class PMTiles(Store):
 
     def metadata(self) -> Dict[str, Any]:
         with self._reading() as file:
-            _, length = section = self.header.metadata
-            if length > MOST_SAID:
-                raise ValueError(f"its metadata have {length:,} bytes")
-            content = unpacked(os.pread(file.fileno(), length, section.offset), self.header.internal, MOST_SAID)
-        said = json.loads(content) if length else {}
+            offset, length = section = self.header.metadata
+            section.check("metadata", os.fstat(file.fileno()).st_size)
+            if length > SAID:
+                raise ValueError(f"its metadata have {length:,} bytes; {SAID:,} are the most")
+            content = unpacked(foreign.piece(file.fileno(), offset, length), self.header.internal, SAID + 1) if length else b"{}"
+        if len(content) > SAID:
+            raise ValueError(f"its metadata unpack to more than {SAID:,} bytes")
+        said = foreign.parsed(content)
         if not isinstance(said, dict):
             raise ValueError("its metadata are no object of JSON")
         first, last = self.header.zooms
@@ -195,7 +199,7 @@ class PMTiles(Store):
     def _directory(self, file: BinaryIO, where: Where) -> Directory:
         if where.section.length > MOST:
             raise ArchiveError(f"it has {where.section.length:,} bytes; {MOST:,} are the most")
-        stored = os.pread(file.fileno(), where.section.length, where.section.offset)
+        stored = foreign.piece(file.fileno(), *where.section)
         if len(stored) < where.section.length:
             raise ArchiveError("the file ends in it")
         content = unpacked(stored, self.header.internal, MOST + 1)

@@ -12,7 +12,7 @@ _WINDOW_OF_EITHER = 47
 # Tiles seldom unpack to more than so many times their bytes, and room that isn't used costs time.
 _USUAL = 8
 
-# A gzip of more members is no tile's: an empty one has 20 bytes, and each costs time.
+# A gzip of more members, or a zstd of more frames, is no tile's: an empty one has few bytes, and each costs time.
 MOST_MEMBERS = 4096
 _PIECE = 1 << 16
 _PADDING = re.compile(rb"\0*")
