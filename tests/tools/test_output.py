@@ -1,4 +1,4 @@
-"""The output of each command: all of it is written, or the command says that it isn't."""
+"""The output of each command: all of it is written, or the command says that it isn't; and an input that doesn't wait."""
 
 import fcntl
 import os
@@ -74,3 +74,16 @@ def test_what_the_outputs_letters_lack_is_spelled(env, tmp_path):
     letters = {**env, "PYTHONIOENCODING": "ascii"}
     done = run(["mvt_tools.geojson", "--help"], letters, stdout=subprocess.PIPE)
     assert done.returncode == 0 and done.stdout.isascii()
+
+
+def test_an_input_that_does_not_wait():
+    end, begin = os.pipe()
+    try:
+        os.set_blocking(end, False)
+        for name, words in (("geojson", ["0/0/0"]), ("tile", ["-"])):
+            done = run([f"mvt_tools.{name}", *words], {}, stdin=end, stdout=subprocess.PIPE)
+            assert (done.returncode, done.stdout) == (3, b"")
+            assert done.stderr.decode() == f"mvt-{name}: the input has nothing yet, and doesn't wait\n"
+    finally:
+        os.close(end)
+        os.close(begin)

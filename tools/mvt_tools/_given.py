@@ -72,6 +72,8 @@ def _read(file: Any) -> bytes:
     source: BinaryIO = file.buffer
     held = bytearray()
     for piece in iter(lambda: source.read(_PIECE), b""):
+        if piece is None:
+            raise OSError("the input has nothing yet, and doesn't wait")
         held += piece
         if len(held) > files.MOST:
             break
