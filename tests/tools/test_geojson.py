@@ -525,6 +525,17 @@ class TestCommands:
             got, out, errors = run("-", "0/0/0", stdin=gzip.compress(TOWN)[:-5], module=module)
             assert (got, out, errors.count("\n")) == (1, b"", 1)
 
+    def test_no_front_of_a_larger_tile_is_written(self, tmp_path):
+        content = b"\x7a" + bytes(mvt.LIMIT + (3 << 20))
+        (tmp_path / "plain.mvt").write_bytes(content)
+        (tmp_path / "packed.mvt").write_bytes(gzip.compress(content, 1))
+        make_tree(tmp_path / "tree", {(0, 0, 0): content})
+        for words in (["plain.mvt"], ["plain.mvt", "--raw"], ["packed.mvt"], ["tree", "0/0/0"], ["tree", "0/0/0", "--raw"]):
+            got, out, errors = run(*words, module="tile", cwd=tmp_path)
+            assert (got, out, errors.count("\n")) == (1, b"", 1), errors
+            assert "bytes, which no tile has" in errors
+        assert run("packed.mvt", "--raw", module="tile", cwd=tmp_path)[:2] == (0, (tmp_path / "packed.mvt").read_bytes())
+
     def test_a_reader_who_is_gone_ends_it_silently(self):
         feature = mvt.Feature(None, {"a": "b" * 1000}, "points", [(1, 1)])
         words = f"{sys.executable} -m mvt_tools.geojson 0/0/0 --seq | head -c 10"
