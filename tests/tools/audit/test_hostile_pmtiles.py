@@ -313,6 +313,23 @@ def test_any_metadata_are_an_object_or_refused(content, is_object, internal, hea
 
 
 @settings(max_examples=200, deadline=None)
+@given(make.sampled_from([1, 2, 3, 4]), make.sampled_from([1, 2]), make.integers(0, 999), make.binary(max_size=9), make.booleans())
+def test_any_change_of_an_archive_is_rows_or_refused(packed, internal, at, put, is_cut):
+    pack = {1: bytes, 2: gzip.compress, 3: pytest.importorskip("brotli").compress, 4: pytest.importorskip("zstandard").compress}[packed]
+    tiles = {(z, 0, 0): pack(TILE * (z + 1)) for z in range(4)}
+    whole = archives.archive(tiles, leaf=2, internal=internal, packed=packed, said={"bounds": [0, 0, 1, 1]})
+    with tempfile.TemporaryDirectory() as room:
+        path = Path(room, "a.pmtiles")
+        at %= len(whole)
+        path.write_bytes(whole[:at] + put + (b"" if is_cut else whole[at + len(put) :]))
+        for ask in (audited, listed, lambda path: stores.opened(str(path)).check()):
+            try:
+                ask(path)
+            except (StoreError, OSError) as why:
+                assert "\n" not in str(why)
+
+
+@settings(max_examples=200, deadline=None)
 @given(make.integers(0, PLACES - 1))
 def test_ids_and_places_are_each_others(number):
     assert id_of(*place_of(number)) == number == archives.tile_id(*place_of(number))
