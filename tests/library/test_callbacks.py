@@ -151,7 +151,7 @@ class Called(unittest.TestCase):
             builder.value(given.numbers[0])
 
     def test_rows_are_those_before_the_name_ends(self):
-        builder, given = self.made("many keys")
+        builder, given = self.made("many layers")
         builder.layer(given.name("ends")).feature("points", id=7).point(3, 4)
         rows = builder.rows()
         self.assertEqual([rows.text(layer.name) for layer in rows.layers], ["a layer", "ends"])
