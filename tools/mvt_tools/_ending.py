@@ -8,6 +8,7 @@ import sys
 from typing import Any, Callable, Optional
 
 from ._shown import shown
+from .bounds import MEMORY as LEAST_MEMORY
 
 USAGE, UNREAD, MEMORY = 2, 3, 4
 
@@ -23,13 +24,14 @@ def hold_places() -> None:
     os.close(nowhere)
 
 
-def bound_memory() -> None:
-    """Takes half of the machine's memory at most: what wants more is told so, and the machine lives on. What threads
-    only reserve isn't counted."""
+def bound_memory(shares: int = 1) -> None:
+    """Takes half of the machine's memory at most, or a share of it: what wants more is told so, and the machine lives on. What
+    threads only reserve isn't counted."""
     half = os.sysconf("SC_PAGE_SIZE") * os.sysconf("SC_PHYS_PAGES") // 2
+    most = min(half, max(half // shares, LEAST_MEMORY))
     soft, hard = resource.getrlimit(resource.RLIMIT_DATA)
-    if soft == resource.RLIM_INFINITY or soft > half:
-        resource.setrlimit(resource.RLIMIT_DATA, (half, hard))
+    if soft == resource.RLIM_INFINITY or soft > most:
+        resource.setrlimit(resource.RLIMIT_DATA, (most, hard))
 
 
 def say(command: str, line: str) -> None:

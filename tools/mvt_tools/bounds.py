@@ -1,4 +1,61 @@
-"""How much is taken, at most, of what strangers wrote."""
+"""What the tiles and stores of strangers may cost: the bounds of these commands, each with its reason."""
 
-# Bytes of what a store says of itself, all of it together, and rows of it.
+# ---- memory
+
+# A process takes half of the machine's memory at most, so that the machine lives on; workers share a half. Each of them has so
+# much even where they are many, since a tile at the limit of 64 MiB wants that to be unpacked and judged.
+MEMORY = 1 << 29
+
+# ---- rows of results
+
+# A name of a layer or a key has so many bytes in a row: longer ones help nobody, and a few bytes of gzip make one of megabytes.
+NAME = 200
+# What can't be read is told in so many letters, some of which a server may have sent.
+WHY = 1_000
+# So many layers of a zoom, and so many keys, are counted by name in a part, and so many in the results; others together.
+NAMED, NAMED_IN_ALL = 2_000, 20_000
+# Of a tile whose rows have more bytes than this only the size is counted: rows take up to fifty times the bytes of their tile.
+ROWS = 1 << 28
+
+# ---- the report
+
+# A picture has so many bytes at most; more make a page that browsers are slow with.
+PICTURE = 400_000
+# Of a larger tile there is no picture: what is round a fault takes fifty bytes for each one of a tile.
+TILE_OF_PICTURE = 2_000_000
+# So many points of the broken feature are drawn at most before the fault, and as many behind: more are a blot.
+POINTS = 20_000
+# Of a tile whose rows have more bytes than this the broken feature alone is drawn, and no name is looked up.
+PICTURE_ROWS = 1 << 24
+# So many seconds the broken parts of one tile are looked for, each of which costs a look at the whole tile.
+PICTURE_SECONDS = 2.0
+
+# ---- copies
+
+# A copy has so many times the bytes of its store at most, or else so many bytes: an archive of zstd grows by less than ten times
+# where its tiles are unpacked, and views of a few letters make any number of bytes.
+COPY, COPY_LEAST = 50, 1 << 26
+# An archive names so many places, or else so many for each of its bytes: those of the world have far less than one, and each
+# place is a row of the copy.
+PLACES, PLACES_A_BYTE = 1_000_000, 2
+# So many places of a run are copied at a time, in less than a second, so that Ctrl-C is heard.
+RUN = 50_000
+# Tiles are copied by so many at a time, or by so many bytes, since they are held meanwhile.
+TILES_AT_A_TIME, BYTES_AT_A_TIME = 2_000, 1 << 24
+# So many contents are remembered, so that equal ones stand in a copy once.
+CONTENTS = 20_000
+
+# ---- what a store says of itself
+
+# Bytes of what a store says of itself, all of it together, and rows of it: as objects of Python they take thirty times as much.
 SAID, SAID_ROWS = 1 << 24, 10_000
+# Of vector_layers with more layers than this nothing is said: the most that are known have some hundreds.
+LAYERS = 10_000
+
+
+def cut(name: str) -> str:
+    """A name as a row has it: whole, or its front with a mark."""
+    front = name[: NAME + 1].encode("utf-8", "surrogatepass")
+    if len(front) <= NAME:
+        return name
+    return front[:NAME].decode("utf-8", "ignore") + "…"

@@ -9,7 +9,7 @@ import time
 from pathlib import Path
 from typing import Any, Dict, List, NoReturn, Optional, Sequence, Tuple
 
-from .._ending import hold_places
+from .._ending import bound_memory, hold_places
 from .._shown import shown
 from ..stores import Options, State, Store, StoreError, found, opened, server_options
 from . import engine, mending, report, summary
@@ -158,6 +158,7 @@ def main(words: Optional[Sequence[str]] = None) -> int:
     try:
         signals.heed()
         hold_places()
+        bound_memory()
         return _audit(_given(words), signals)
     except BaseException as why:
         if isinstance(why, SystemExit):

@@ -8,6 +8,7 @@ from urllib.parse import quote
 
 from mvt._mvt import cause_text
 
+from ... import bounds
 from ...stores import Store
 from ..judging import ACCEPTED, BROKEN, EMPTY, NOT_UNPACKED, REFUSED, UNREAD, VERDICTS
 from ..results import Results
@@ -172,7 +173,8 @@ def _example(example: Example, stores: Dict[str, Store]) -> str:
         return f'<article>{"".join(said)}<div class="shown">{shown}</div></article>'
     told = [f"<code>{escape(fault.line)}</code>", counted(row.bytes or 0, "byte"), escape(row.notes)]
     if not fault.explanation.endswith(cause_text(fault.cause)):
-        said.append(f"<p>{escape(fault.explanation)}</p>")
+        # Names of any length stand before the sentence, and their fronts above.
+        said.append(f"<p>{escape(fault.explanation if len(fault.explanation) < bounds.WHY else fault.sentence)}</p>")
     said.append(f'<p class="quiet">{"; ".join(filter(None, told))}</p>')
     shown = "".join(_pictures(example.content, fault)) + _bytes(example.content, (fault.start or 0, fault.end or 0))
     return f'<article>{"".join(said)}<div class="shown">{shown}</div></article>'
@@ -190,17 +192,13 @@ def _within(example: Example) -> str:
 
 
 def _pictures(tile: bytes, fault: Any) -> Iterable[str]:
-    try:
-        whole = pictures.of_tile(tile, fault)
-    except MemoryError:
-        whole = None
-    if whole is None:
+    found = pictures.of_fault(tile, fault)
+    if not found:
         yield '<p class="quiet">No picture: nothing of the tile can be drawn, or it is too large for this page.</p>'
-    for picture in (whole, pictures.close_up(tile, fault)):
-        if picture is not None:
-            source = quote(picture.svg, safe=" =:;,/()!*.-+?@_~")
-            yield f'<figure><img alt="{escape(picture.told)}" src="data:image/svg+xml,{source}">' \
-                  f"<figcaption>{escape(picture.told)}</figcaption></figure>"
+    for picture in found:
+        source = quote(picture.svg, safe=" =:;,/()!*.-+?@_~")
+        yield f'<figure><img alt="{escape(picture.told)}" src="data:image/svg+xml,{source}">' \
+              f"<figcaption>{escape(picture.told)}</figcaption></figure>"
 
 
 def _bytes(tile: bytes, place: Optional[Tuple[int, int]]) -> str:
