@@ -91,7 +91,7 @@ class Results:
     def __init__(self, folder: Path, anew: bool = False) -> None:
         folder.mkdir(parents=True, exist_ok=True)
         self.file = folder / "audit.sqlite"
-        self._lock = _locked(folder)
+        self._lock = locked(folder)
         try:
             if anew:
                 for end in ("", "-journal"):
@@ -241,9 +241,9 @@ def _count(database: sqlite3.Connection, name: str, table: str, columns: Iterabl
             database.execute(f"insert into main.{table} values (?{', ?' * (len(kind) + 1)})", (path, *kind, tiles))
 
 
-def _locked(folder: Path) -> int:
-    """The folder, held open and locked, since two runs would write the same rows."""
-    held = os.open(folder, os.O_RDONLY)
+def locked(folder: Path, how: int = os.O_RDONLY) -> int:
+    """The folder, held open and locked, since two runs would write the same. Raises OSError."""
+    held = os.open(folder, how)
     try:
         fcntl.flock(held, fcntl.LOCK_EX | fcntl.LOCK_NB)
     except OSError as why:

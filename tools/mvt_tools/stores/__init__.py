@@ -130,6 +130,10 @@ class Store(ABC):
                 if each[0] != key:
                     yield each
 
+    def runs(self, key: Optional[Key]) -> Iterator[Tuple[Key, Address, Content]]:
+        """All tiles, or those behind a key. Equal ones that stand one behind another may be one, with the key of the last."""
+        return self.since(None) if key is None else self.after(key)
+
     def find(self, z: int, x: int, y: int) -> Optional[Key]:
         """The key of the tile at a place, or None. A store that waits tells the key without asking. Raises OSError."""
         return None

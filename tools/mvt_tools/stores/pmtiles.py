@@ -9,7 +9,7 @@ from functools import lru_cache, partial
 from typing import Any, BinaryIO, Callable, Dict, Iterator, List, NamedTuple, Optional, Tuple, Union
 
 from .. import foreign
-from ..bounds import SAID
+from ..bounds import RUN, SAID
 from . import Address, Content, Key, Options, State, Store, StoreError, files
 from .archive import GZIP, HEADER, MAGIC, MOST, MOST_TILES, NONE, ArchiveError, Directory, Entry, Header, Section, unpacked
 from .files import ReadAhead
@@ -146,15 +146,30 @@ class PMTiles(Store):
     # A key is a tile id, and 0 for the tile or 1 for what is wrong behind it.
 
     def since(self, key: Optional[Key]) -> Iterator[Tuple[Key, Address, Content]]:
-        first = (0, 0) if key is None else _checked(key)
+        for (last, is_fault), address, content in self._runs((0, 0) if key is None else _checked(key)):
+            if is_fault:
+                yield (last, 1), address, content
+                continue
+            for tile_id in range(last - address.tiles + 1, last + 1):
+                yield (tile_id, 0), Address(*place_of(tile_id)), content
+
+    def runs(self, key: Optional[Key]) -> Iterator[Tuple[Key, Address, Content]]:
+        tile_id, is_fault = (-1, 1) if key is None else _checked(key)
+        return self._runs((tile_id + is_fault, 1 - is_fault))
+
+    def _runs(self, first: Tuple[int, int]) -> Iterator[Tuple[Tuple[int, int], Address, Content]]:
+        """The tiles from a key on, as many of a run together as are copied at a time."""
         with self._reading() as file:
             content = self._contents(file)
             for found in self._entries(file, self._root(), first[0]):
-                if isinstance(found, Entry):
-                    for tile_id in range(max(found.tile_id, sum(first)), found.tile_id + found.run):
-                        yield (tile_id, 0), Address(*place_of(tile_id)), content(*found[2:])
-                elif (found.behind, 1) >= first:
-                    yield (found.behind, 1), Address(None, None, None, found.name), StoreError(found.why)
+                if isinstance(found, Fault):
+                    if (found.behind, 1) >= first:
+                        yield (found.behind, 1), Address(None, None, None, found.name), StoreError(found.why)
+                    continue
+                end = found.tile_id + found.run
+                for tile_id in range(max(found.tile_id, sum(first)), end, RUN):
+                    count = min(RUN, end - tile_id)
+                    yield (tile_id + count - 1, 0), Address(*place_of(tile_id), None, count), content(*found[2:])
 
     def first_key(self, z: int) -> Optional[Key]:
         return first_of(z), 0
