@@ -93,7 +93,6 @@ OWN = {
     "mvt_tools/audit/results.py": "counts of its own results",
     "mvt_tools/audit/summary.py": "rows of its own results",
     "mvt_tools/audit/report/examples.py": "rows of its own results, with a limit",
-    "mvt_tools/audit/described.py": "numbers and JSON, each within a try of its own",
 }
 
 

@@ -111,3 +111,23 @@ def test_broken_tiles_hide_no_layer(tmp_path):
         database.execute("insert into tiles values (3, 0, 0, ?)", (gzip.compress(example_tiles()["20-ZeroSegment"]),))
     status, out, _ = audit(path, "--into", tmp_path / "audit")
     assert status == 1 and "metadata: " not in out
+
+
+NUMBERS = [
+    ('{"minzoom": 1e400, "maxzoom": 5}', "minzoom and maxzoom are no zooms"),
+    ('{"minzoom": 0, "maxzoom": 1' + "0" * 400 + "}", "minzoom and maxzoom are no zooms"),
+    ('{"minzoom": -1, "maxzoom": 5}', "minzoom and maxzoom are no zooms"),
+    ('{"bounds": [0, 0, 1e308, 1]}', "bounds are no four numbers of degrees"),
+    ('{"bounds": [0, 0, 1e400, 1]}', "bounds are no four numbers of degrees"),
+    ('{"bounds": [0, 0, 1' + "0" * 400 + ", 1]}", "bounds are no four numbers of degrees"),
+]
+
+
+@pytest.mark.parametrize("said, why", NUMBERS, ids=range(len(NUMBERS)))
+def test_numbers_that_are_too_large_are_a_line(tmp_path, said, why):
+    folder = make_tree(tmp_path / "tree", TILES)
+    (folder / "metadata.json").write_text(said)
+    status, out, error = audit(folder, "--into", tmp_path / "audit")
+    assert (status, error) == (0, "")
+    assert f"metadata: its description can't be read: {why}\n" in out
+    assert "can&#x27;t be read" in (tmp_path / "audit" / "report.html").read_text()
