@@ -19,16 +19,17 @@ ROWS = 1 << 28
 
 # ---- the report
 
-# A picture has so many bytes at most; more make a page that browsers are slow with.
-PICTURE = 400_000
+# A picture has so many bytes at most, and all of a page have so many: more make one that browsers are slow with.
+PICTURE, PICTURES = 400_000, 1 << 24
 # Of a larger tile there is no picture: what is round a fault takes fifty bytes for each one of a tile.
 TILE_OF_PICTURE = 2_000_000
 # So many points of the broken feature are drawn at most before the fault, and as many behind: more are a blot.
 POINTS = 20_000
 # Of a tile whose rows have more bytes than this the broken feature alone is drawn, and no name is looked up.
 PICTURE_ROWS = 1 << 24
-# So many seconds the broken parts of one tile are looked for, each of which costs a look at the whole tile.
-PICTURE_SECONDS = 2.0
+# So many seconds the broken parts of one tile are looked for, each of which costs a look at the whole tile, and after so many no
+# picture is begun.
+PICTURE_SECONDS, PICTURES_SECONDS = 2.0, 60.0
 
 # ---- copies
 

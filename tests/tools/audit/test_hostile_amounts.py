@@ -46,16 +46,29 @@ def test_a_long_broken_line_takes_less_than_300_MB_of_the_client(tmp_path, lengt
     assert (found.status, found.error) == (1, "")
     assert found.client < 300 * MB
     assert on_disk(tmp_path / "audit") < MB
-    assert "No picture: nothing of the tile can be drawn, or it is too large" in (tmp_path / "audit" / "report.html").read_text()
+    assert "No picture: nothing of the tile can be drawn, or it is too much" in (tmp_path / "audit" / "report.html").read_text()
 
 
 def test_a_long_line_is_drawn_where_it_is_broken():
     tile = standing_line(900_000)
     with pytest.raises(mvt.Refused) as refused:
         mvt.judge(tile)
-    [near] = [picture for picture in pictures.of_fault(tile, refused.value) if picture.told.startswith("Round the place")]
+    [near] = [picture for picture in pictures.Album().of_fault(tile, refused.value) if picture.told.startswith("Round the place")]
     assert len(near.svg) < bounds.PICTURE
     assert near.svg.count(" ") > bounds.POINTS
+
+
+def test_pictures_of_a_page_have_room_and_time_together(monkeypatch):
+    tile = example_tiles()["20-ZeroSegment"]
+    with pytest.raises(mvt.Refused) as refused:
+        mvt.judge(tile)
+    made = pictures.Album().of_fault(tile, refused.value)
+    assert made
+    monkeypatch.setattr(bounds, "PICTURES", 2 * bounds.PICTURE + 1)
+    album = pictures.Album()
+    assert [album.of_fault(tile, refused.value) for _ in range(2)] == [made, []]
+    monkeypatch.setattr(bounds, "PICTURES_SECONDS", -1)
+    assert pictures.Album().of_fault(tile, refused.value) == []
 
 
 def test_many_names_of_megabytes_take_less_than_300_MB_and_become_less_than_2_MB(tmp_path):

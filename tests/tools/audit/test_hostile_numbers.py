@@ -19,7 +19,7 @@ from mvt_tools.audit.results import Results
 
 EXAMPLES = example_tiles()
 TILES = at_places([EXAMPLES["20-ZeroSegment"], EXAMPLES["gdal"], b""])
-NEARLY = settings(max_examples=100, deadline=None, suppress_health_check=list(HealthCheck))
+NEARLY = settings(max_examples=60, deadline=None, suppress_health_check=list(HealthCheck))
 
 # Numbers as JSON spells them, that no float or whole number of 64 bits has; the others are such as stores have.
 ODD = ["1e400", "-1e400", "9e999", "1" + "0" * 400, "-1" + "0" * 400, "1" * 5000, "NaN", "Infinity", "-Infinity", "1e308", "-1e308",

@@ -19,7 +19,7 @@ from ..stores.tile_ids import id_of, place_of
 from ..stores.tree import Tree
 from . import metadata
 from .links import is_out, leads_out
-from .parts import Part, put, taken
+from .parts import Part, give, put, taken
 from .results import Results, ResultsError
 
 # About so many bytes a place takes in the copy.
@@ -148,7 +148,7 @@ class _Folder(Copy):
     def end(self) -> None:
         with self._part.ending():
             pass
-        os.fchmod(self._folder, self._mode(""))
+        give(self._folder, self._mode(""))
 
     def _copy_metadata(self) -> Optional[str]:
         """Why they aren't in the copy, if they aren't."""
@@ -182,7 +182,7 @@ class _Folder(Copy):
             folder = "/".join(steps[:count])
             with suppress(FileExistsError):
                 os.mkdir(folder, 0o700, dir_fd=self._folder)
-                os.chmod(folder, self._mode(folder) | 0o700, dir_fd=self._folder)
+                give(folder, self._mode(folder) | 0o700, self._folder)
 
     def _mode(self, name: str) -> int:
         """The rights that a file or folder of the store has, which the copy's gets."""
@@ -232,7 +232,7 @@ class _MBTilesFile(Copy):
                 self._database.close()
             except sqlite3.Error as why:
                 raise self._failed(why) from why
-            self._part.whole.chmod(os.stat(self._store.path).st_mode & 0o777)
+            give(self._part.whole, os.stat(self._store.path).st_mode & 0o777)
 
     def _open(self) -> None:
         self._database = sqlite3.connect(self._part.whole, isolation_level=None)

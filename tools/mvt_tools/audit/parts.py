@@ -8,7 +8,7 @@ import secrets
 import shutil
 from contextlib import contextmanager, suppress
 from pathlib import Path
-from typing import Iterator, Optional
+from typing import Iterator, Optional, Union
 
 from .results import ResultsError, locked
 
@@ -18,6 +18,12 @@ _NEW = os.O_WRONLY | os.O_CREAT | os.O_EXCL | os.O_NOFOLLOW | os.O_CLOEXEC
 _MARK, _SECRET = "mark", ".mvt-audit"
 # What is nothing isn't written, by so many bytes.
 _PIECE = 1 << 16
+
+
+def give(file: Union[int, str, Path], mode: int, folder: Optional[int] = None) -> None:
+    """Gives an own file or folder these rights, where the file system has any."""
+    with suppress(PermissionError):
+        os.chmod(file, mode, dir_fd=folder)
 
 
 def put(folder: int, name: str, content: bytes, mode: Optional[int] = None) -> None:
@@ -34,7 +40,7 @@ def put(folder: int, name: str, content: bytes, mode: Optional[int] = None) -> N
                 file.write(piece)
         file.truncate(len(content))
         if mode is not None:
-            os.fchmod(file.fileno(), mode)
+            give(file.fileno(), mode)
     os.replace(new, name, src_dir_fd=folder, dst_dir_fd=folder)
 
 
@@ -128,7 +134,7 @@ class Part:
             raise
         told = os.fstat(held)
         if told.st_uid == os.geteuid() and self._path.exists() and os.path.samestat(told, self._path.lstat()):
-            os.fchmod(held, 0o700)
+            give(held, 0o700)
             return held
         os.close(held)
         raise self._foreign()

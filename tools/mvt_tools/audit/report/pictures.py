@@ -161,14 +161,22 @@ def _good(tile: bytes) -> Tuple[Optional[str], int]:
         return None, dropped
 
 
-def of_fault(tile: bytes, fault: mvt.Refused) -> List[Picture]:
-    """The pictures of a broken tile: the whole, and round the place; none of one that is too large."""
-    if len(tile) > bounds.TILE_OF_PICTURE:
-        return []
-    try:
-        return [picture for picture in (of_tile(tile, fault), close_up(tile, fault)) if picture is not None]
-    except MemoryError:
-        return []
+class Album:
+    """The pictures of a page, which have room and time together."""
+
+    def __init__(self) -> None:
+        self._room, self._ends = bounds.PICTURES, time.monotonic() + bounds.PICTURES_SECONDS
+
+    def of_fault(self, tile: bytes, fault: mvt.Refused) -> List[Picture]:
+        """The pictures of a broken tile: the whole, and round the place; none where they would be too much."""
+        if len(tile) > bounds.TILE_OF_PICTURE or self._room < 2 * bounds.PICTURE or time.monotonic() > self._ends:
+            return []
+        try:
+            found = [picture for picture in (of_tile(tile, fault), close_up(tile, fault)) if picture is not None]
+        except MemoryError:
+            return []
+        self._room -= sum(len(picture.svg) for picture in found)
+        return found
 
 
 def of_tile(tile: bytes, fault: mvt.Refused) -> Optional[Picture]:
