@@ -36,9 +36,9 @@ PICTURE_SECONDS, PICTURES_SECONDS = 2.0, 60.0
 # A copy has so many times the bytes of its store at most, or else so many bytes: an archive of zstd grows by less than ten times
 # where its tiles are unpacked, and views of a few letters make any number of bytes.
 COPY, COPY_LEAST = 50, 1 << 26
-# An archive names so many places, or else so many for each of its bytes: those of the world have far less than one, and each
-# place is a row of the copy.
-PLACES, PLACES_A_BYTE = 1_000_000, 2
+# An archive that is copied names so many places at most, or else one for each of its bytes: those of the world have far less,
+# and each place is a row of the copy.
+PLACES = 1_000_000
 # So many places of a run are copied at a time, in less than a second, so that Ctrl-C is heard.
 RUN = 50_000
 # Tiles are copied by so many at a time, or by so many bytes, since they are held meanwhile.

@@ -12,9 +12,11 @@ from common import EVIDENCE, at_places, audit, example_tiles, json, make_mbtiles
 from mvt_tools import bounds
 from mvt_tools._ending import bound_memory
 from mvt_tools.audit import judging
-from mvt_tools.audit.processes import Processes
 from mvt_tools.audit.engine import Task
+from mvt_tools.audit.processes import Processes
 from mvt_tools.audit.report import pictures
+from mvt_tools.audit.results import Block, Results
+from mvt_tools.stores import Address
 from mvt_tools.stores.tree import Tree
 from watching import MB, Watched, on_disk
 from wire import field, packed, varint, zigzag
@@ -108,6 +110,31 @@ def test_names_that_are_cut_are_those_of_the_description(tmp_path):
         database.execute("insert into metadata values ('json', ?)", (json.dumps(said),))
     status, out, error = audit(store, "--into", tmp_path / "audit")
     assert (status, error) == (0, "") and "metadata: " not in out
+
+
+def steps_to_add(results, number):
+    """What it takes SQLite to take in 500 refused tiles, each with a layer of its own name."""
+    layers = [field(15, 2) + field(1, b"%d" % (500 * number + at)) + b"\xff" for at in range(500)]
+    tiles = {Address(9, at, number): field(3, layer) for at, layer in enumerate(layers)}
+    steps = []
+    results.database.set_progress_handler(lambda: steps.append(1) and None, 100)
+    results.add([Block("/store", number, judging.judged_part(Tiles(tiles), None))])
+    return len(steps)
+
+
+class Tiles(Tree):
+    """Some tiles as a store."""
+
+    def __init__(self, tiles):
+        super().__init__("/store")
+        self.tiles = lambda part: iter(tiles.items())
+
+
+def test_a_name_more_costs_the_same_whatever_names_there_are(tmp_path):
+    with closing(Results(tmp_path)) as results:
+        costs = [steps_to_add(results, number) for number in range(20)]
+        assert rows(tmp_path, "select count(distinct layer_name) from counts") == [(10_000,)]
+    assert costs[-1] < 3 * costs[0]
 
 
 def limit(store, tiles):

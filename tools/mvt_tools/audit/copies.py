@@ -23,7 +23,7 @@ from .parts import Part, give, put, taken
 from .results import Results, ResultsError
 
 # About so many bytes a place takes in the copy.
-_ROW = 24
+_ROW = 30
 
 # What stands in the place of some tiles: the contents themselves, most often.
 Tiles = List[Tuple[Address, bytes]]
@@ -41,7 +41,7 @@ def copy_of(results: Results, store: Store, state: State, to: Path) -> "Copy":
     if to.suffix == ".pmtiles":
         raise ResultsError(f"{to}: an MBTiles file is written; let its name end with .mbtiles")
     size = os.path.getsize(store.path)
-    most = max(bounds.PLACES, bounds.PLACES_A_BYTE * size)
+    most = max(bounds.PLACES, size)
     if isinstance(store, PMTiles) and state.tiles > most:
         raise ResultsError(f"{store.path}: no copy is made of {state.tiles:,} tiles in {size:,} bytes; {most:,} are the most")
     return _MBTilesFile(store, Part(to, results.file.parent, state.digest))

@@ -37,6 +37,9 @@ VERSION = 5
 # It is made when all tiles are in: while there is none, the rows of a block are copied as they stand.
 _INDEX = "create index if not exists tiles_not_accepted on tiles (verdict, cause, z) where verdict <> 'accepted'"
 
+# By it a count is found that is added to: there are as many as the tiles have names of layers.
+_COUNTS_INDEX = "create index if not exists counts_of on counts (layer_name, z)"
+
 # So many blocks are taken in at a time: SQLite has room for ten databases.
 _BLOCKS = 8
 
@@ -113,6 +116,7 @@ class Results:
                 database.executescript(f"pragma page_size = 16384; begin; {SCHEMA} pragma user_version = {VERSION}; commit;")
             elif version != VERSION:
                 raise ResultsError(f"{self.file}: not made by this mvt-audit; --anew begins again")
+            database.execute(_COUNTS_INDEX)
             for number in range(_BLOCKS):
                 database.execute(f"attach ':memory:' as block{number}")
         except sqlite3.OperationalError:
