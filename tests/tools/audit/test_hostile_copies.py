@@ -348,7 +348,7 @@ def test_a_folder_of_another_user_is_not_written_in(tree, tmp_path, kind):
 def test_results_of_another_user_are_not_taken_for_those_of_the_copy(tree, tmp_path):
     with shared() as room:
         (room / "new.audit").mkdir()
-        (room / "new.audit" / "report.html.new").symlink_to(tmp_path / "victim")
+        (room / "new.audit" / "report.html.unfinished").symlink_to(tmp_path / "victim")
         os.chown(room / "new.audit", 65534, 65534)
         assert "is another user's; name a folder with --into" in refused(tree, room / "new")
     assert not (tmp_path / "victim").exists()
@@ -357,8 +357,8 @@ def test_results_of_another_user_are_not_taken_for_those_of_the_copy(tree, tmp_p
 def test_a_link_beside_the_report_is_not_followed(tree, tmp_path):
     (tmp_path / "audit").mkdir()
     (tmp_path / "victim").write_bytes(SECRET)
-    (tmp_path / "audit" / "report.html.new").symlink_to(tmp_path / "victim")
-    (tmp_path / "audit" / "report.html").symlink_to(tmp_path / "victim")
+    for name in ("report.html", "report.html.new", "report.html.unfinished"):
+        (tmp_path / "audit" / name).symlink_to(tmp_path / "victim")
     assert audit(tree, "--into", tmp_path / "audit")[0] == 1
     assert (tmp_path / "victim").read_bytes() == SECRET and not (tmp_path / "audit" / "report.html").is_symlink()
 
