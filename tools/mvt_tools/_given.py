@@ -7,6 +7,7 @@ from typing import Any, BinaryIO, Callable, NoReturn, Optional, Sequence, Tuple
 
 from mvt import MvtError, NoLayer, Refused
 
+from . import bounds
 from ._ending import MEMORY, UNREAD, USAGE, Output, bound_memory, hold_places, of_system, say
 from ._shown import shown
 from .stores import Options, Store, StoreError, files, found, place_of
@@ -75,7 +76,7 @@ def _read(file: Any) -> bytes:
         if piece is None:
             raise OSError("the input has nothing yet, and doesn't wait")
         held += piece
-        if len(held) > files.MOST:
+        if len(held) > bounds.FILE:
             break
     return bytes(held)
 

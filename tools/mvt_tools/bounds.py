@@ -1,10 +1,43 @@
 """What the tiles and stores of strangers may cost: the bounds of these commands, each with its reason."""
 
+from mvt import LIMIT
+
 # ---- memory
 
 # A process takes half of the machine's memory at most, so that the machine lives on; workers share a half. Each of them has so
 # much even where they are many, since a tile at the limit of 64 MiB wants that to be unpacked and judged.
 MEMORY = 1 << 29
+
+# ---- files, and what is packed in them
+
+# Of a file that should be a tile so many bytes are read: the front of a larger one decides that it is too large.
+FILE = LIMIT + (1 << 20)
+# A value of an SQLite file has so many bytes at most: a tile, and whatever stands with it. A few bytes of SQL make a gigabyte.
+VALUE = FILE + (1 << 20)
+# A gzip of more members, or a zstd of more frames, is no tile's: an empty one has few bytes, and each costs time.
+MEMBERS = 4096
+# A line of a list has so many bytes at most; a name that the system takes is shorter.
+LINE = 8192
+# A directory of an archive has so many bytes at most, packed and unpacked: those of whole planets have a few million.
+DIRECTORY = 64_000_000
+# Leaf directories lie in one another no deeper than this, where one or two are usual, and from so many on that can't be read the
+# rest isn't looked at.
+LEAVES, FAULTS = 8, 100
+
+# ---- questions to SQLite
+
+# So many seconds the next row may take, and one more for so many bytes of the file: a view may never end.
+ROW_SECONDS, ROW_BYTES_A_SECOND = 10.0, 1_000_000
+# So much a question may name, views within views included: one of a few lines makes millions of them.
+NAMES_OF_A_QUESTION = 2_000
+
+# ---- the page
+
+# The rows of a tile, and GeoJSON of it, have at most so many bytes: a text stands in the latter once for each feature that has it.
+ROWS_OF_PAGE, GEOJSON = 1 << 30, 1 << 30
+# What there is round a fault has up to 72 times as many bytes as the tile; of tiles above so many bytes none is told, and no
+# feature of a mended one is drawn.
+AROUND = 1 << 23
 
 # ---- rows of results
 
@@ -50,8 +83,12 @@ CONTENTS = 20_000
 
 # Bytes of what a store says of itself, all of it together, and rows of it: as objects of Python they take thirty times as much.
 SAID, SAID_ROWS = 1 << 24, 10_000
+# A TileJSON has so many bytes at most: servers send some kilobytes.
+TILEJSON = 1 << 20
 # Of vector_layers with more layers than this nothing is said: the most that are known have some hundreds.
 LAYERS = 10_000
+# No degree of bounds is larger: they may lie some turns round the world.
+DEGREES = 3600
 
 
 def cut(name: str) -> str:

@@ -8,7 +8,7 @@ from mvt import LIMIT
 
 from . import _given
 from ._ending import USAGE, Output
-from .stores.files import MOST
+from .bounds import FILE
 
 COMMAND = "mvt-tile"
 
@@ -37,7 +37,7 @@ def _work(words: Optional[Sequence[str]]) -> int:
     if what is None:
         raise _given.GivenError(USAGE, "out of which store? say it before the place")
     content = _given.stored(what, place, given.raw)
-    tile, most = (content, MOST - 1) if given.raw else (_given.plain(content), LIMIT)
+    tile, most = (content, FILE - 1) if given.raw else (_given.plain(content), LIMIT)
     if len(tile) > most:  # what was read is the front
         raise _given.GivenError(_given.REFUSED, f"it has more than {most:,} bytes, which no tile has")
     output = Output()

@@ -1,7 +1,6 @@
 """Mended copies of stores that others made, and beside what others wrote: nothing of anybody else's is given away, overwritten or
 believed, and a few bytes make no many."""
 
-import gzip
 import json
 import os
 import resource

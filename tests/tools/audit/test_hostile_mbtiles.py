@@ -18,7 +18,7 @@ from common import at_places, make_mbtiles
 from hostile import audited, in_time, listed, short, verdicts
 from hypothesis import given, settings
 from hypothesis import strategies as make
-from mvt_tools import stores
+from mvt_tools import bounds, stores
 from mvt_tools.stores import StoreError, sqlite
 from mvt_tools.stores.waiting import asked_while
 from mvt_tools.page.listing import key_of, spelled
@@ -216,7 +216,7 @@ NEVER = {
 
 @pytest.mark.parametrize("kind", NEVER)
 def test_what_never_ends_is_told_within_its_time(kind, tmp_path, monkeypatch):
-    monkeypatch.setattr(sqlite, "PATIENCE", 0.5)
+    monkeypatch.setattr(bounds, "ROW_SECONDS", 0.5)
     path = made(tmp_path / "a.mbtiles", NEVER[kind])
     for ask in (audited, lambda path: listed(path, most=5)):
         try:

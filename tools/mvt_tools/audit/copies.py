@@ -112,7 +112,7 @@ class Copy:
     def _add(self, batch: _Batch, address: Address, content: Content) -> None:
         """Takes a tile into a step, if it can be copied: what is read of a larger one than a tile is its front."""
         batch.places += address.tiles
-        if not isinstance(content, bytes) or len(content) >= files.MOST or address.z is None:
+        if not isinstance(content, bytes) or len(content) >= bounds.FILE or address.z is None:
             return
         if leads_out(self._store, address):
             batch.links += address.tiles

@@ -13,8 +13,8 @@ from .results import Results
 
 # Of long lists the rest is counted.
 _SHOWN = 6
-# No zoom is larger, and no degree.
-_MOST_ZOOM, _MOST_DEGREES = 255, 1000
+# No zoom is larger.
+_MOST_ZOOM = 255
 
 
 class Description(NamedTuple):
@@ -57,7 +57,7 @@ def _bounds(given: Any) -> Optional[foreign.Degrees]:
     if given is None:
         return None
     found = foreign.degrees(given)
-    if found is None or any(abs(each) > _MOST_DEGREES for each in found):
+    if found is None or any(abs(each) > bounds.DEGREES for each in found):
         raise ValueError("bounds are no four numbers of degrees")
     return found
 

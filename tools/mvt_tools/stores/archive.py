@@ -5,14 +5,12 @@ import struct
 import zlib
 from typing import Any, Iterator, NamedTuple, Tuple
 
+from .. import bounds
 from .tile_ids import DEEPEST, first_of
-from .unpacking import MOST_MEMBERS
 
 MAGIC = b"PMTiles"
 HEADER = 127
 
-# What a directory may have, stored and unpacked.
-MOST = 64_000_000
 # How many tiles an archive may name: one at each place.
 MOST_TILES = first_of(DEEPEST + 1)
 
@@ -186,12 +184,12 @@ def _unbrotlied(stream: Any, stored: bytes, most: int) -> bytes:
 def _unzstded(decompressor: Any, stored: bytes, most: int) -> bytes:
     """Of all frames, one behind the other."""
     made, end = bytearray(), 0
-    for _ in range(MOST_MEMBERS):
+    for _ in range(bounds.MEMBERS):
         frame, end = _frame(decompressor.decompressobj(), stored, end, most - len(made))
         made += frame
         if end == len(stored) or len(made) >= most:
             return bytes(made)
-    raise ArchiveError(f"zstd: more than {MOST_MEMBERS:,} frames")
+    raise ArchiveError(f"zstd: more than {bounds.MEMBERS:,} frames")
 
 
 def _frame(stream: Any, stored: bytes, at: int, most: int) -> Tuple[bytearray, int]:

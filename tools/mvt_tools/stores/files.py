@@ -7,14 +7,10 @@ import re
 import stat
 from typing import Iterator, List, Tuple
 
-from .. import foreign
+from .. import bounds, foreign
 from . import Address, Content
-from .unpacking import LIMIT
 
 _PLACE = re.compile(r"(?:.*/)?([0-9]{1,2})/([0-9]{1,10})/([0-9]{1,10})\.(?:mvt|pbf)(?:\.gz)?")
-
-# Of a larger file the front decides.
-MOST = LIMIT + (1 << 20)
 
 # What isn't opened, by its kind in a file's mode.
 _OTHERS = {stat.S_IFDIR: "a folder", stat.S_IFIFO: "a pipe", stat.S_IFCHR: "a device", stat.S_IFBLK: "a device"}
@@ -71,7 +67,7 @@ def front(path: str, length: int) -> bytes:
 def read(path: str) -> bytes:
     """A file, or the front that decides. Raises OSError."""
     with opened(path) as file:
-        return os.read(file.fileno(), MOST)
+        return os.read(file.fileno(), bounds.FILE)
 
 
 class ReadAhead:

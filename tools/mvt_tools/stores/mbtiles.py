@@ -10,9 +10,8 @@ from typing import Any, Dict, Iterator, List, NamedTuple, Optional, Tuple, Union
 
 from .. import foreign
 from .._shown import shown
-from ..bounds import SAID, SAID_ROWS
+from ..bounds import FILE, SAID, SAID_ROWS
 from . import Address, Content, Key, Options, State, Store, StoreError, files
-from .files import MOST
 from .sqlite import Watched
 
 _MAGIC = b"SQLite format 3\0"
@@ -352,7 +351,7 @@ def _named(column: str) -> str:
     return f"case typeof({column}) when 'integer' then {column} else substr(cast({column} as text), 1, 100) end"
 
 
-_DATA = f"case when length(tile_data) <= {MOST} then tile_data end, length(tile_data)"
+_DATA = f"case when length(tile_data) <= {FILE} then tile_data end, length(tile_data)"
 
 
 def _selected(numbers: Optional[str]) -> str:
@@ -430,11 +429,11 @@ def _large(database: Watched, number: Optional[int], size: int) -> Union[bytes, 
     if number is not None and hasattr(database, "blobopen"):  # from Python 3.11 on
         try:
             with database.blobopen("tiles", "tile_data", number, readonly=True) as blob:
-                front: bytes = blob.read(MOST)
+                front: bytes = blob.read(FILE)
                 return front
         except sqlite3.Error:
             pass
-    return StoreError(f"it has {size:,} bytes, and {MOST:,} are read of a tile at most")
+    return StoreError(f"it has {size:,} bytes, and {FILE:,} are read of a tile at most")
 
 
 def _turned(z: int, y: int) -> int:

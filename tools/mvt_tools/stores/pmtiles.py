@@ -9,19 +9,12 @@ from functools import lru_cache, partial
 from typing import Any, BinaryIO, Callable, Dict, Iterator, List, NamedTuple, Optional, Tuple, Union
 
 from .. import foreign
-from ..bounds import RUN, SAID
+from ..bounds import DIRECTORY, FAULTS, FILE, LEAVES, RUN, SAID
 from . import Address, Content, Key, Options, State, Store, StoreError, files
-from .archive import GZIP, HEADER, MAGIC, MOST, MOST_TILES, NONE, ArchiveError, Directory, Entry, Header, Section, unpacked
+from .archive import GZIP, HEADER, MAGIC, MOST_TILES, NONE, ArchiveError, Directory, Entry, Header, Section, unpacked
 from .files import ReadAhead
-from .files import MOST as MOST_OF_A_TILE
 from .tile_ids import first_of, id_of, place_of
 from .unpacking import LIMIT, NotUnpacked
-
-# How deep leaf directories may lie in one another.
-DEEPEST_LEAF = 8
-
-# From so many directories on that can't be read the rest isn't looked at.
-MOST_FAULTS = 100
 
 
 class Where(NamedTuple):
@@ -212,14 +205,14 @@ class PMTiles(Store):
         return Where(self.header.root, 0, MOST_TILES)
 
     def _directory(self, file: BinaryIO, where: Where) -> Directory:
-        if where.section.length > MOST:
-            raise ArchiveError(f"it has {where.section.length:,} bytes; {MOST:,} are the most")
+        if where.section.length > DIRECTORY:
+            raise ArchiveError(f"it has {where.section.length:,} bytes; {DIRECTORY:,} are the most")
         stored = foreign.piece(file.fileno(), *where.section)
         if len(stored) < where.section.length:
             raise ArchiveError("the file ends in it")
-        content = unpacked(stored, self.header.internal, MOST + 1)
-        if len(content) > MOST:
-            raise ArchiveError(f"it unpacks to more than {MOST:,} bytes")
+        content = unpacked(stored, self.header.internal, DIRECTORY + 1)
+        if len(content) > DIRECTORY:
+            raise ArchiveError(f"it unpacks to more than {DIRECTORY:,} bytes")
         return Directory(content)
 
     def _opened(self, file: BinaryIO, where: Where, above: Tuple[Section, ...]) -> Directory:
@@ -229,8 +222,8 @@ class PMTiles(Store):
             raise ArchiveError(f"the leaf of tile id {where.low} ends beyond the {leaves.length:,} bytes of leaves")
         if where.section in above:
             raise ArchiveError("it leads in a circle")
-        if len(above) > DEEPEST_LEAF:
-            raise ArchiveError(f"it lies below more than {DEEPEST_LEAF} others")
+        if len(above) > LEAVES:
+            raise ArchiveError(f"it lies below more than {LEAVES} others")
         directory = self._directory(file, where)
         if above and directory.first() != where.low:
             raise ArchiveError(f"it begins with tile id {directory.first()}, and the one above says {where.low}")
@@ -288,7 +281,7 @@ class PMTiles(Store):
                 tiles += found.tiles
                 continue
             faults += 1
-            if faults == MOST_FAULTS:
+            if faults == FAULTS:
                 break
         return tiles
 
@@ -299,8 +292,8 @@ class PMTiles(Store):
             if isinstance(each, Fault):
                 yield each
                 faults += 1
-                if faults == MOST_FAULTS:
-                    yield Fault("directories", f"{MOST_FAULTS} can't be read; the rest isn't looked at")
+                if faults == FAULTS:
+                    yield Fault("directories", f"{FAULTS} can't be read; the rest isn't looked at")
                     return
                 continue
             found += each.tiles
@@ -334,7 +327,7 @@ class PMTiles(Store):
         tiles, end = header.tiles, offset + length
         if end > tiles.length:
             return StoreError(f"its bytes end at {end:,} of {tiles.length:,} bytes of tiles")
-        length = min(length, MOST_OF_A_TILE)
+        length = min(length, FILE)
         try:
             stored = read(tiles.offset + offset, length)
             if len(stored) < length:

@@ -24,15 +24,12 @@ from mvt.mercator import EDGE, column_of, row_of
 
 from .. import foreign
 from .._shown import shown
+from ..bounds import DEGREES, FILE, TILEJSON
 from . import Address, Content, Key, NotYet, Options, State, Store, StoreError
-from .files import MOST
 from .unpacking import NotUnpacked, unpacked
 
 DEEPEST = 30
-_MOST_OF_TILEJSON = 1 << 20
 _PIECE = 1 << 18
-# Bounds may lie some turns round the world.
-_MOST_DEGREES = 3600
 # A line has an address in it.
 _LONGEST = 1000
 _HOLE = re.compile(r"\{(z|x|y|-y)\}")
@@ -239,7 +236,7 @@ class Server(Store):
     def _tilejson(self) -> Dict[str, Any]:
         try:
             with closing(self._client()) as client:
-                answer = client.answer(self.path, _MOST_OF_TILEJSON)
+                answer = client.answer(self.path, TILEJSON)
             said = foreign.parsed(_plain(answer)) if answer.status == 200 else None
         except ServerError as why:
             raise StoreError(f"{self.path}: {why}") from why
@@ -318,7 +315,7 @@ class _Client:
     def content(self, address: str) -> Content:
         """The body of a tile as it is stored; None where there is no tile."""
         try:
-            answer = self.answer(address, MOST)
+            answer = self.answer(address, FILE)
         except ServerError as why:
             return why
         if answer.status in _NOTHING_THERE:
@@ -481,8 +478,8 @@ def _plain(answer: Answer) -> bytes:
         plain = unpacked(answer.body)
     except NotUnpacked as why:
         raise ServerError(f"its gzip doesn't unpack: {why}") from why
-    if len(plain) > _MOST_OF_TILEJSON:
-        raise ServerError(f"no TileJSON: it has more than {_MOST_OF_TILEJSON:,} bytes")
+    if len(plain) > TILEJSON:
+        raise ServerError(f"no TileJSON: it has more than {TILEJSON:,} bytes")
     return plain
 
 
@@ -535,7 +532,7 @@ def _bounds_of(path: str, said: Dict[str, Any]) -> Optional[foreign.Degrees]:
     if told is None:
         return None
     bounds = foreign.degrees(told)
-    if bounds is None or any(abs(each) > _MOST_DEGREES for each in bounds):
+    if bounds is None or any(abs(each) > DEGREES for each in bounds):
         raise StoreError(f"{path}: this TileJSON says the bounds {shown(reprlib.repr(told))}")
     return bounds
 
