@@ -89,6 +89,15 @@ def test_a_description_of_another_form_is_one_line(said, tmp_path):
     assert len([line for line in out.splitlines() if line.startswith("metadata: its description can't be read: ")]) == 1
 
 
+def test_nothing_is_told_of_a_description_that_a_link_leads_to(tmp_path):
+    (tmp_path / "secret.json").write_text('{"vector_layers": [{"id": "secret"}]}')
+    folder = make_tree(tmp_path / "tree", TILES)
+    (folder / "metadata.json").symlink_to(tmp_path / "secret.json")
+    _, out, _ = audit(folder, "--into", tmp_path / "audit")
+    assert "metadata: its description can't be read: metadata.json is a link that leads out of the store\n" in out
+    assert "“secret”" not in out + (tmp_path / "audit" / "report.html").read_text()
+
+
 def test_what_says_nothing_differs_in_nothing(tmp_path):
     for store in (make_tree(tmp_path / "tree", TILES), make_mbtiles(tmp_path / "a.mbtiles", TILES)):
         _, out, _ = audit(store, "--into", tmp_path / f"of {store.name}")

@@ -15,7 +15,7 @@ from pathlib import Path
 
 import archives
 import pytest
-from common import at_places, audit, example_tiles, make_mbtiles, make_tree, start
+from common import at_places, audit, example_tiles, files, held, make_mbtiles, make_tree, start
 from hostile import in_time
 from mvt_tools import stores
 from mvt_tools.audit import engine, mending
@@ -23,7 +23,6 @@ from mvt_tools.audit.copies import copy_of
 from mvt_tools.audit.parts import Part
 from mvt_tools.audit.results import Results, ResultsError
 from processes import below, until
-from test_mending import files, held
 from watching import MB, Watched, on_disk
 from wire import varint
 

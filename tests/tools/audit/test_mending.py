@@ -13,7 +13,7 @@ from pathlib import Path
 
 import mvt
 from archives import archive
-from common import Case, at_places, audit, example_tiles, make_mbtiles, make_tree, packings, rows, start
+from common import Case, at_places, audit, example_tiles, files, held, make_mbtiles, make_tree, packings, rows, start
 from mvt_tools.audit.parts import Part
 
 EXAMPLES = example_tiles()
@@ -21,19 +21,6 @@ EXAMPLES = example_tiles()
 BROKEN = [EXAMPLES["20-ZeroSegment"], EXAMPLES["22-FirstRing"]]
 OTHERS = [EXAMPLES["10-NoName"], EXAMPLES["gdal"], b""]
 MENDED = [mvt.mend(tile).bytes for tile in BROKEN]
-
-
-def held(path):
-    """The tiles of an MBTiles file by place, counted from the north, and its metadata."""
-    with closing(sqlite3.connect(path)) as database:
-        found = database.execute("select zoom_level, tile_column, tile_row, tile_data from tiles").fetchall()
-        said = dict(database.execute("select name, value from metadata"))
-        assert database.execute("pragma integrity_check").fetchone() == ("ok",)
-    return {(z, x, (1 << z) - 1 - y): data for z, x, y, data in found}, said
-
-
-def files(folder):
-    return {str(path.relative_to(folder)): path.read_bytes() for path in Path(folder).rglob("*") if path.is_file()}
 
 
 class Mends(Case):

@@ -7,8 +7,9 @@ from mvt.mercator import EDGE, column_of, row_of
 
 from .. import bounds, foreign
 from .._shown import shown
-from ..stores import MOST_ZOOM, Store
-from .metadata import UNREADABLE
+from ..stores import MOST_ZOOM, Store, StoreError
+from .links import is_out
+from .metadata import FILE, UNREADABLE
 from .results import Results
 
 # Of long lists the rest is counted.
@@ -29,6 +30,8 @@ class Description(NamedTuple):
 def differences(results: Results, store: Store) -> List[str]:
     """What is other than the store says, in sentences; nothing where it says nothing."""
     try:
+        if store.kind == "folder" and is_out(store.path, FILE):
+            raise StoreError(f"{FILE} is a link that leads out of the store")
         found = description(store.metadata())
     except UNREADABLE as why:
         return [f"its description can't be read: {shown(str(why) or 'out of memory')}"]
