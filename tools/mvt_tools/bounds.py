@@ -82,7 +82,7 @@ CONTENTS = 20_000
 # ---- what a store says of itself
 
 # Bytes of what a store says of itself, all of it together, and rows of it: as objects of Python they take thirty times as much.
-SAID, SAID_ROWS = 1 << 24, 10_000
+SAID, SAID_ROWS = 1 << 23, 10_000
 # A TileJSON has so many bytes at most: servers send some kilobytes.
 TILEJSON = 1 << 20
 # Of vector_layers with more layers than this nothing is said: the most that are known have some hundreds.

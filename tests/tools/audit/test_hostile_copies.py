@@ -1,6 +1,7 @@
 """Mended copies of stores that others made, and beside what others wrote: nothing of anybody else's is given away, overwritten or
 believed, and a few bytes make no many."""
 
+import gzip
 import json
 import os
 import resource
@@ -17,7 +18,7 @@ import archives
 import pytest
 from common import at_places, audit, example_tiles, files, held, make_mbtiles, make_tree, start
 from hostile import in_time
-from mvt_tools import stores
+from mvt_tools import bounds, stores
 from mvt_tools.audit import engine, mending
 from mvt_tools.audit.copies import copy_of
 from mvt_tools.audit.parts import Part
@@ -167,7 +168,7 @@ def test_holes_in_files_do_not_become_bytes(tree, tmp_path):
     found = Watched(tree, "--mend", tmp_path / "new")
     assert (found.status, found.error) == (3, "")
     assert "; 1 couldn't be copied\n" in found.out
-    assert "metadata aren't in the copy: more than 16,777,216 bytes\n" in found.out
+    assert "metadata aren't in the copy: more than 8,388,608 bytes\n" in found.out
     assert on_disk(tmp_path / "new") < MB and found.client < 500 * MB
     assert (tmp_path / "new" / "5" / "0" / "6.mvt").stat().st_size == 60 << 20
 
@@ -203,9 +204,21 @@ def test_metadata_of_a_few_bytes_fill_no_disk(tmp_path):
     with in_time():
         found = Watched(store, "--mend", tmp_path / "new.mbtiles")
     assert (found.status, found.error) == (0, "")
-    assert f"metadata aren't in the copy: {store}: its metadata are more than 16,777,216 bytes, or 10,000 rows\n" in found.out
+    assert f"metadata aren't in the copy: {store}: its metadata are more than 8,388,608 bytes, or 10,000 rows\n" in found.out
     assert held(tmp_path / "new.mbtiles")[1] == {"name": "a", "format": "pbf"}
     assert on_disk(tmp_path) < MB and found.client < 200 * MB
+
+
+@pytest.mark.parametrize("piece", ["[],", '{"":0},', "[0],", '"ab",'])
+def test_metadata_of_many_small_values_take_less_than_350_MB_of_the_client(tmp_path, piece):
+    text = '{"more":[' + (piece * ((bounds.SAID - 20) // len(piece)))[:-1] + "]}"
+    whole = archives.archive(at_places([BROKEN, GOOD]), internal=2)
+    numbers, content = list(archives.HEADER.unpack(whole[:127])), gzip.compress(text.encode())
+    numbers[4:6] = len(whole), len(content)
+    (tmp_path / "a.pmtiles").write_bytes(archives.HEADER.pack(*numbers) + whole[127:] + content)
+    found = Watched(tmp_path / "a.pmtiles", "--mend", tmp_path / "new.mbtiles")
+    assert (found.status, found.error) == (0, "")
+    assert found.client < 350 * MB and on_disk(tmp_path) < 50 * MB
 
 
 def test_metadata_that_are_no_text_are_copied_as_they_are(tmp_path):

@@ -473,7 +473,7 @@ BOMBS = {
 @pytest.mark.parametrize("bomb", BOMBS)
 def test_more_metadata_than_a_copy_takes_are_told(bomb, tmp_path, memory):
     path = made(tmp_path / "a.mbtiles", [*TABLES["bare"], f"create view metadata (name, value) as {BOMBS[bomb]}"], numbered(GOOD))
-    with pytest.raises(StoreError, match="its metadata are more than 16,777,216 bytes, or 10,000 rows"):
+    with pytest.raises(StoreError, match="its metadata are more than 8,388,608 bytes, or 10,000 rows"):
         stores.opened(str(path)).named()
 
 

@@ -215,7 +215,7 @@ def test_metadata_beyond_the_file_are_told(said, made):
 def test_metadata_of_a_terabyte_in_a_hole_are_told(made):
     store = stores.opened(str(made(changed(archive([ONE]), METADATA + 8, 1 << 40), 1 << 41)))
     store.check()
-    with pytest.raises(ValueError, match="its metadata have 1,099,511,627,776 bytes; 16,777,216 are the most"):
+    with pytest.raises(ValueError, match="its metadata have 1,099,511,627,776 bytes; 8,388,608 are the most"):
         store.metadata()
 
 
@@ -229,7 +229,7 @@ def with_metadata(made, content, internal=1):
 
 
 def test_a_bomb_of_metadata_is_told(made):
-    with pytest.raises(ValueError, match="its metadata unpack to more than 16,777,216 bytes"):
+    with pytest.raises(ValueError, match="its metadata unpack to more than 8,388,608 bytes"):
         with_metadata(made, gzip.compress(b"[" + b" " * 200_000_000 + b"]"), 2).metadata()
 
 
