@@ -146,8 +146,7 @@ class _Folder(Copy):
         super().close()
 
     def end(self) -> None:
-        with self._part.ending():
-            pass
+        self._part.end()
         give(self._folder, self._mode(""))
 
     def _copy_metadata(self) -> Optional[str]:
@@ -226,13 +225,14 @@ class _MBTilesFile(Copy):
         super().close()
 
     def end(self) -> None:
-        with self._part.ending():
-            try:
-                self._database.execute("drop table copying")
-                self._database.close()
-            except sqlite3.Error as why:
-                raise self._failed(why) from why
-            give(self._part.whole, os.stat(self._store.path).st_mode & 0o777)
+        self._part.check_free()
+        try:
+            self._database.execute("drop table copying")
+            self._database.close()
+        except sqlite3.Error as why:
+            raise self._failed(why) from why
+        give(self._part.whole, os.stat(self._store.path).st_mode & 0o777)
+        self._part.end()
 
     def _open(self) -> None:
         self._database = sqlite3.connect(self._part.whole, isolation_level=None)

@@ -6,9 +6,9 @@ import os
 import re
 import secrets
 import shutil
-from contextlib import contextmanager, suppress
+from contextlib import suppress
 from pathlib import Path
-from typing import Iterator, Optional, Union
+from typing import Optional, Union
 
 from .results import ResultsError, locked
 
@@ -107,16 +107,19 @@ class Part:
         os.unlink(_MARK, dir_fd=self._folder)
         self._path.rmdir()
 
-    @contextmanager
-    def ending(self) -> Iterator[None]:
-        """Has the copy, whole when this is left, stand where it is wanted. Raises ResultsError where something is there."""
+    def check_free(self) -> None:
+        """Raises ResultsError where something is where the copy shall stand."""
+        if os.path.lexists(self._to):
+            raise taken(self._to)
+
+    def end(self) -> None:
+        """Has the copy, which is whole, stand where it is wanted. Raises ResultsError where something is there."""
         is_folder = self.whole.is_dir()
         try:
             self._to.mkdir(0o700) if is_folder else os.close(os.open(self._to, _NEW, 0o600))
         except FileExistsError as why:
             raise taken(self._to) from why
         try:
-            yield
             os.replace(self.whole, self._to)
         except BaseException:
             if self.whole.exists():  # else it stands there
