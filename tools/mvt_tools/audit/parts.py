@@ -10,7 +10,7 @@ from contextlib import suppress
 from pathlib import Path
 from typing import Optional, Union
 
-from .results import ResultsError, locked
+from .results import ResultsError, at_work, locked
 
 _FOLDER = os.O_RDONLY | os.O_DIRECTORY | os.O_NOFOLLOW | os.O_CLOEXEC
 _NEW = os.O_WRONLY | os.O_CREAT | os.O_EXCL | os.O_NOFOLLOW | os.O_CLOEXEC
@@ -136,11 +136,12 @@ class Part:
                 raise self._foreign() from why
             raise
         told = os.fstat(held)
-        if told.st_uid == os.geteuid() and self._path.exists() and os.path.samestat(told, self._path.lstat()):
+        is_own = told.st_uid == os.geteuid()
+        if is_own and self._path.exists() and os.path.samestat(told, self._path.lstat()):
             give(held, 0o700)
             return held
         os.close(held)
-        raise self._foreign()
+        raise at_work(self._path) if is_own else self._foreign()
 
     def _take(self, secret: bytes, digest: str) -> bool:
         """Whether a copy in this state was begun; one that wasn't is now."""

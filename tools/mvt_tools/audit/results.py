@@ -252,5 +252,10 @@ def locked(folder: Path, how: int = os.O_RDONLY) -> int:
         fcntl.flock(held, fcntl.LOCK_EX | fcntl.LOCK_NB)
     except OSError as why:
         os.close(held)
-        raise ResultsError(f"{folder}: another mvt-audit is at work here") from why
+        raise at_work(folder) from why
     return held
+
+
+def at_work(folder: Path) -> ResultsError:
+    """Of a folder that another run has."""
+    return ResultsError(f"{folder}: another mvt-audit is at work here")
