@@ -114,7 +114,8 @@ def test_names_that_are_cut_are_those_of_the_description(tmp_path):
 
 def steps_to_add(results, number):
     """What it takes SQLite to take in 500 refused tiles, each with a layer of its own name."""
-    layers = [field(15, 2) + field(1, b"%d" % (500 * number + at)) + b"\xff" for at in range(500)]
+    standing = field(2, field(3, 2) + field(4, packed([9, 4, 4, 10, 0, 0])))
+    layers = [field(15, 2) + field(1, b"%d" % (500 * number + at)) + standing for at in range(500)]
     tiles = {Address(9, at, number): field(3, layer) for at, layer in enumerate(layers)}
     steps = []
     results.database.set_progress_handler(lambda: steps.append(1) and None, 100)
@@ -157,7 +158,8 @@ def bounded(store, tile):
     """What is said of a tile by a worker with so much memory."""
     resource.setrlimit(resource.RLIMIT_DATA, (600 << 20, resource.getrlimit(resource.RLIMIT_DATA)[1]))
     judge = judging.Judge(True)
-    return repr(judge(tile)[:2] + judge(tile)[10:13] + (judge.measured,)).encode()
+    said = judge(tile)
+    return repr((said.verdict, said.bytes, said.notes, said.findings, judge.measured)).encode()
 
 
 def test_a_tile_that_wants_2_GB_to_be_linted_is_judged_with_600_MB():
@@ -171,8 +173,8 @@ def test_a_tile_that_wants_2_GB_to_be_linted_is_judged_with_600_MB():
         [found] = workers.finished()
     finally:
         workers.close()
-    said = eval(found.content)
-    assert said[:2] == ("accepted", len(tile)) and "takes too much memory" in said[2] and said[3] is None and said[-1] == []
+    told = "what else is to be said of it takes too much memory"
+    assert found.content.decode() == repr(("accepted", len(tile), told, None, [])), found.why
 
 
 def test_a_memory_that_is_less_already_stays():
