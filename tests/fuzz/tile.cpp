@@ -2,6 +2,7 @@
 // its end and built anew, and is then what `rewrite` writes.
 #include "mvt.hpp"
 
+#include <algorithm>
 #include <cstdlib>
 #include <iostream>
 #include <optional>
@@ -60,6 +61,15 @@ void build_layer(mvt::builder &builder, const mvt::tile &tile, const mvt_layer &
     }
 }
 
+/// A mended tile is canonical, keeps every rule and isn't changed again; one without changes was a tile before.
+void mended(mvt::byte_span input, bool was_refused) {
+    const mvt::mended made = mvt::mend(input);
+    const mvt::mended again = mvt::mend(made.bytes());
+    require(made.changes().empty() != was_refused, "changes of a tile that keeps every rule, or none of another");
+    require(again.changes().empty() && std::ranges::equal(again.bytes(), made.bytes()), "what is mended is changed again");
+    require(std::ranges::equal(mvt::rewrite(made.bytes()), made.bytes()), "what is mended isn't canonical");
+}
+
 /// The tile built anew from what its rows say.
 mvt::bytes built(const mvt::tile &tile) {
     mvt::builder builder;
@@ -88,10 +98,7 @@ extern "C" int LLVMFuzzerTestOneInput(const std::uint8_t *data, std::size_t size
     require(refused_by([&] { (void)mvt::svg(input); }) == fault, "svg has another verdict");
     require(refused_by([&] { (void)mvt::read(input); }) == fault, "read has another verdict");
     require(refused_by([&] { in_pieces(input); }) == fault, "a decoder has another verdict");
-    const auto unmended = refused_by([&] {
-        const mvt::mended told = mvt::mend(input);
-        mvt::judge(told.bytes());
-    });
+    const auto unmended = refused_by([&] { mended(input, fault.has_value()); });
     require(!unmended || unmended == fault, "mend has another verdict, or makes no tile");
     if (fault) return 0;
     const mvt::tile tile = mvt::read(input);

@@ -1,15 +1,16 @@
-"""What of the Python module wants a process of its own: its memory, valgrind, the example of points, its types, a clone in which
-nothing is built, a source distribution without a library, and the other Pythons of the machine."""
+"""What of the Python module wants a process of its own: its memory, valgrind, AddressSanitizer, the example of points, its
+types, a clone in which nothing is built, a source distribution without a library, and the other Pythons of the machine."""
 
 import os
 import re
 import shutil
 import subprocess
 import sys
+import sysconfig
 from pathlib import Path
 
 import pytest
-from room import MVT, TOP, made, needs, run
+from room import BUILT, C, MVT, SANITIZED, TOP, made, needs, run
 
 HERE = Path(__file__).parent
 PYTHON = [sys.executable, "-X", "dev", "-W", "error"]
@@ -41,6 +42,28 @@ def test_under_valgrind(part):
 @needs("valgrind")
 def test_cases_under_valgrind():
     under_valgrind(LOST, "-m", "pytest", "-q", "-p", "no:xdist", HERE / "test_cases.py", "-k", "example")
+
+
+def sanitized():
+    """The module, whose extension is compiled with sanitizers."""
+
+    def make(path):
+        shutil.copytree(TOP / "library/python/mvt", path / "mvt", ignore=shutil.ignore_patterns("*.so"))
+        sources = [*sorted(TOP.glob("library/python/src/*.c")), BUILT / "libmvt.a"]
+        headers = f"-I{sysconfig.get_path('include')}"
+        run(*C, "-fPIC", "-shared", *SANITIZED, headers, "-o", path / "mvt/_mvt.abi3.so", *sources)
+
+    return made("sanitized-module", make)
+
+
+@needs("gcc")
+@pytest.mark.parametrize("part", ["callbacks", "building", "writing", "module"])
+def test_with_sanitizers(part):
+    if not Path(sysconfig.get_path("include"), "Python.h").exists():
+        pytest.skip("the headers of Python aren't there")
+    preloaded = run("gcc", "-print-file-name=libasan.so").stdout.strip()
+    told = {"LD_PRELOAD": preloaded, "ASAN_OPTIONS": "detect_leaks=0", "PYTHONMALLOC": "malloc", "PYTHONPATH": str(sanitized())}
+    run(sys.executable, HERE / f"test_{part}.py", env={**os.environ, **told})
 
 
 def test_points():

@@ -9,6 +9,7 @@ import unittest
 from pathlib import Path
 
 import mvt
+from mvt._mvt import measured
 from shown import shown
 
 sys.path.insert(0, str(Path(__file__).resolve().parents[1] / "program"))
@@ -55,6 +56,20 @@ class Sizes(unittest.TestCase):
         for call in (mvt.rewrite, lambda tile: mvt.write(mvt.read(tile))):
             with self.assertRaises(mvt.TooLarge):
                 call(over)
+
+
+class Measured(unittest.TestCase):
+    def test_of_long_names_the_first_letters_are_told(self):
+        """Those of 200 bytes, and a mark."""
+        for letter, before, whole in (("a", "", 200), ("é", "", 100), ("é", "a", 99), ("€", "", 66), ("€", "ab", 66), ("\U0001f600", "", 50)):
+            for more in (0, 1, 2, 100_000):
+                with self.subTest(letter=letter, more=more):
+                    name = before + letter * (whole + more)
+                    told = before + letter * whole + "…" if len(name.encode()) > 200 else name
+                    builder = mvt.Builder().layer(name).feature("points").tag(name, 1).point(1, 1)
+                    tile = builder.finish()
+                    [(layer, features, size, _, [(key, _)])] = measured(tile)
+                    self.assertEqual((layer, key, features, size), (told, told, 1, len(tile)))
 
 
 if __name__ == "__main__":

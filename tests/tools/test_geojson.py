@@ -1,6 +1,7 @@
 """GeoJSON of tiles, layers of GeoJSON, and the commands `mvt-geojson` and `mvt-tile`. Expected values come from RFC 7946,
 from Web Mercator, and from GDAL where it is there."""
 
+import decimal
 import gzip
 import http.server
 import json
@@ -50,6 +51,9 @@ def degrees(x, y, extent=4096, place=PLACE):
     side = 2**z
     latitude = math.atan(math.sinh(math.pi * (1 - 2 * (top + y / extent) / side)))
     return (left + x / extent) / side * 360 - 180, math.degrees(latitude)
+
+
+NO_PLACES = [(31, 0, 0), (-1, 0, 0), (0, "0", 0), (0, 10**400, 0), (0, 0, -(10**400)), (0, 1 << 63, 0), (0.5, 0, 0), (0, 0, None)]
 
 
 class TestToGeojson:
@@ -133,10 +137,14 @@ class TestToGeojson:
         assert mvt.to_geojson(mvt.read(TOWN), *PLACE) == wanted
         assert mvt.to_geojson(mvt.rows(TOWN), *PLACE) == wanted
 
-    @pytest.mark.parametrize("place", [(31, 0, 0), (-1, 0, 0), (0, "0", 0)])
+    @pytest.mark.parametrize("place", NO_PLACES)
     def test_what_is_no_place(self, place):
         with pytest.raises(ValueError):
             mvt.to_geojson(TOWN, *place)
+
+    def test_places_beyond_the_world_are_places(self):
+        for place in ((0, 1, 0), (30, (1 << 63) - 1, 1 - (1 << 63))):
+            assert json.dumps(mvt.to_geojson(TOWN, *place), allow_nan=False)
 
 
 class TestInterface:
@@ -198,6 +206,62 @@ _PROPERTIES = make.none() | make.dictionaries(make.text(), make.none() | _VALUES
 _OBJECTS = make.lists(
     make.builds(dict, type=make.just("Feature"), id=_IDS | make.text(), properties=_PROPERTIES, geometry=_GEOMETRIES),
     max_size=4,
+)
+
+
+NO_GEOJSON = [
+    {"type": "Circle"}, {"type": "FeatureCollection"}, {"type": "Point", "coordinates": [1]}, {}, [5],
+    {"type": "Point", "coordinates": [math.nan, 0]}, {"type": "Polygon", "coordinates": [1]},
+    {"type": "LineString", "coordinates": None}, {"type": "GeometryCollection", "geometries": 5},
+    None, 5, True, 0.5, "", "{}", b"{}", '{"type": "Point", "coordinates": [1, 2]}',
+    {"type": ["Point"], "coordinates": [1, 2]}, {"type": {"a": 1}}, {"type": None}, {"type": 5},
+    *(
+        {"type": "Feature", "properties": properties, "geometry": {"type": "Point", "coordinates": [1, 2]}}
+        for properties in (5, True, "abc", [1], {"a": {(1, 2): 3}})
+    ),
+    *(
+        {"type": kind, "coordinates": coordinates}
+        for kind in ("Point", "MultiPoint", "LineString", "MultiLineString", "Polygon", "MultiPolygon")
+        for coordinates in (
+            "12", {"12": 1, "34": 2}, {"x": 1}, None, 5, True, [True, False], [["1", "2"]], ["12", "34"], ["1", "2"],
+            [{"x": 1, "y": 2}], [[[{"0": 1}]]], [None, None], [[None, 1]], [[[[[1]]]]], [[1, 2], 5], b"12", [b"12"], [1j, 1j],
+        )
+    ),
+]
+
+# JSON of the words and the numbers that GeoJSON has, and of those that it hasn't.
+_WORDS = make.sampled_from(
+    ["type", "coordinates", "features", "geometry", "geometries", "properties", "id", "Feature", "FeatureCollection", "Point",
+     "MultiPoint", "LineString", "MultiLineString", "Polygon", "MultiPolygon", "GeometryCollection", "12", "", "\ud800"]
+)
+_LEAVES = (
+    make.none() | make.booleans() | make.floats() | make.floats(-180, 180) | make.integers(-180, 180) | _WORDS
+    | make.sampled_from([1e308, -1e308, 10**310, -(10**4000), 1 << 64, -(1 << 64), 0.15, -0.15, 1e-300])
+)
+_JSON = make.recursive(_LEAVES, lambda inner: make.lists(inner, max_size=4) | make.dictionaries(_WORDS, inner, max_size=4), max_leaves=12)
+
+
+def _or_any(strategy):
+    """What is as it should be, most often."""
+    return make.one_of(strategy, strategy, strategy, _JSON)
+
+
+_PLACES = _or_any(make.lists(_or_any(make.floats(-180, 180) | make.sampled_from([0.15, -0.15])), min_size=2, max_size=3))
+_LINES = _or_any(make.lists(_PLACES, max_size=5))
+_AREAS = _or_any(make.lists(_LINES, max_size=3))
+_SPOILED = make.builds(
+    dict, type=_or_any(make.just("Feature")), id=_or_any(_IDS), properties=_or_any(_PROPERTIES),
+    geometry=_or_any(
+        make.one_of(
+            *(
+                make.builds(dict, type=make.just(kind), coordinates=coordinates)
+                for kind, coordinates in {
+                    "Point": _PLACES, "MultiPoint": _LINES, "LineString": _LINES, "MultiLineString": _AREAS, "Polygon": _AREAS,
+                    "MultiPolygon": _or_any(make.lists(_AREAS, max_size=2)),
+                }.items()
+            )
+        )
+    ),
 )
 
 
@@ -266,21 +330,61 @@ class TestFromGeojson:
         layer = mvt.from_geojson([geometry.Point(0, 0), geometry.box(0, 0, 0.01, 0.01)], *PLACE)
         assert [feature.kind for feature in layer.features] == ["points", "polygons"]
 
-    @pytest.mark.parametrize(
-        "what",
-        [
-            {"type": "Circle"}, {"type": "FeatureCollection"}, {"type": "Point", "coordinates": [1]}, {}, [5],
-            {"type": "Point", "coordinates": [math.nan, 0]}, {"type": "Polygon", "coordinates": [1]},
-            {"type": "LineString", "coordinates": None}, {"type": "GeometryCollection", "geometries": 5},
-        ],
-    )
+    @pytest.mark.parametrize("what", NO_GEOJSON, ids=lambda what: ascii(what)[:60])
     def test_what_is_no_geojson(self, what):
         with pytest.raises(ValueError):
             mvt.from_geojson(what, *PLACE)
 
-    def test_too_far_from_the_tile(self):
+    @pytest.mark.parametrize("place", NO_PLACES)
+    def test_what_is_no_place(self, place):
+        with pytest.raises(ValueError):
+            mvt.from_geojson([], *place)
+
+    @pytest.mark.parametrize("extent", [0, -1, 1 << 32, 10**400])
+    def test_what_is_no_extent(self, extent):
+        with pytest.raises(ValueError):
+            mvt.from_geojson([], 0, 0, 0, extent)
+
+    @pytest.mark.parametrize("far", [179, 1e308, -1e308, 10**309, -(10**4000)])
+    def test_too_far_from_the_tile(self, far):
+        for place in ((30, 0, 0), (30, 0, 1 << 29)):
+            with pytest.raises(mvt.OutOfRange):
+                mvt.from_geojson({"type": "Point", "coordinates": [far, 0]}, *place)
+
+    @pytest.mark.parametrize("kind", ["MultiPoint", "LineString", "MultiLineString", "Polygon"])
+    def test_too_far_from_one_another(self, kind):
+        """Each position is less than 2^31 units from the tile, and the second one more than that from the first."""
+        ends = [[-0.15, 0], [0.15, 0], [0.15, 0.1]]
+        drawn = {"MultiPoint": ends, "LineString": ends, "MultiLineString": [ends[:1] * 2, ends], "Polygon": [[*ends, ends[0]]]}
+        place = (30, 1 << 29, 1 << 29)
+        for each in ends:
+            mvt.from_geojson({"type": "Point", "coordinates": each}, *place)
         with pytest.raises(mvt.OutOfRange):
-            mvt.from_geojson({"type": "Point", "coordinates": [179, 0]}, 30, 0, 0)
+            mvt.from_geojson({"type": kind, "coordinates": drawn[kind]}, *place)
+
+    def test_numbers_of_any_kind_are_positions(self):
+        numpy = pytest.importorskip("numpy", reason="numpy isn't there")
+        wanted = mvt.from_geojson({"type": "MultiPoint", "coordinates": [[1, 2], [3.5, 4.5]]}, *(numpy.int64(each) for each in (0, 0, 0)))
+        given = numpy.array([[1, 2], [3.5, 4.5]], "f4")
+        for coordinates in (given, given.tolist(), [tuple(map(decimal.Decimal, map(str, each))) for each in given.tolist()]):
+            assert mvt.from_geojson({"type": "MultiPoint", "coordinates": coordinates}, 0, 0, 0) == wanted
+
+    def test_large_properties_and_ids(self):
+        at = {"type": "Point", "coordinates": [0, 0]}
+        properties = {"a": 10**400, "b": -(10**400), "c": 10**5000}
+        for id in (10**5000, -1, 1 << 64, 1e300, True, [[[]]], {"a": 1}, "1" * 5000):
+            layer = mvt.from_geojson({"type": "Feature", "id": id, "properties": properties, "geometry": at}, *PLACE)
+            assert layer.features[0].attributes == {"a": math.inf, "b": -math.inf, "c": math.inf}
+            assert (layer.features[0].id, layer.vanished.ids) == (None, 1)
+
+    @settings(max_examples=500, suppress_health_check=list(HealthCheck), deadline=None)
+    @given(_JSON | make.lists(_SPOILED, max_size=3) | _SPOILED, make.sampled_from([(0, 0, 0), PLACE, (30, 1 << 29, 1 << 29)]))
+    def test_any_json_is_a_layer_or_refused(self, given, place):
+        try:
+            layer = mvt.from_geojson(given, *place)
+        except (ValueError, mvt.OutOfRange):
+            return
+        mvt.judge(mvt.write(mvt.Tile([layer])))
 
 
 def _rows(features):
@@ -420,6 +524,17 @@ class TestCommands:
         for module in ("geojson", "tile"):
             got, out, errors = run("-", "0/0/0", stdin=gzip.compress(TOWN)[:-5], module=module)
             assert (got, out, errors.count("\n")) == (1, b"", 1)
+
+    def test_no_front_of_a_larger_tile_is_written(self, tmp_path):
+        content = b"\x7a" + bytes(mvt.LIMIT + (3 << 20))
+        (tmp_path / "plain.mvt").write_bytes(content)
+        (tmp_path / "packed.mvt").write_bytes(gzip.compress(content, 1))
+        make_tree(tmp_path / "tree", {(0, 0, 0): content})
+        for words in (["plain.mvt"], ["plain.mvt", "--raw"], ["packed.mvt"], ["tree", "0/0/0"], ["tree", "0/0/0", "--raw"]):
+            got, out, errors = run(*words, module="tile", cwd=tmp_path)
+            assert (got, out, errors.count("\n")) == (1, b"", 1), errors
+            assert "bytes, which no tile has" in errors
+        assert run("packed.mvt", "--raw", module="tile", cwd=tmp_path)[:2] == (0, (tmp_path / "packed.mvt").read_bytes())
 
     def test_a_reader_who_is_gone_ends_it_silently(self):
         feature = mvt.Feature(None, {"a": "b" * 1000}, "points", [(1, 1)])

@@ -5,9 +5,10 @@ import os
 import resource
 import signal
 import sys
-from typing import IO, Any, Optional
+from typing import Any, Callable, Optional
 
 from ._shown import shown
+from .bounds import MEMORY as LEAST_MEMORY
 
 USAGE, UNREAD, MEMORY = 2, 3, 4
 
@@ -23,13 +24,14 @@ def hold_places() -> None:
     os.close(nowhere)
 
 
-def bound_memory() -> None:
-    """Takes half of the machine's memory at most: what wants more is told so, and the machine lives on. What threads
-    only reserve isn't counted."""
+def bound_memory(shares: int = 1) -> None:
+    """Takes half of the machine's memory at most, or a share of it: what wants more is told so, and the machine lives on. What
+    threads only reserve isn't counted."""
     half = os.sysconf("SC_PAGE_SIZE") * os.sysconf("SC_PHYS_PAGES") // 2
+    most = min(half, max(half // shares, LEAST_MEMORY))
     soft, hard = resource.getrlimit(resource.RLIMIT_DATA)
-    if soft == resource.RLIM_INFINITY or soft > half:
-        resource.setrlimit(resource.RLIMIT_DATA, (half, hard))
+    if soft == resource.RLIM_INFINITY or soft > most:
+        resource.setrlimit(resource.RLIMIT_DATA, (most, hard))
 
 
 def say(command: str, line: str) -> None:
@@ -43,29 +45,30 @@ def say(command: str, line: str) -> None:
 
 
 class Output:
-    """The output, in text or in bytes. Raises OSError where it can't be written; a reader who is gone ends the command, as
-    other programs end."""
+    """The output, in text or in bytes, all of it: where Python holds nothing back (PYTHONUNBUFFERED), what it has for it may
+    take less than it is given. Raises OSError where it can't be written; a reader who is gone ends the command, as other
+    programs end, unless it has more to do."""
 
-    def __init__(self) -> None:
-        signal.signal(signal.SIGPIPE, signal.SIG_DFL)
+    def __init__(self, ends_with_reader: bool = True) -> None:
+        if ends_with_reader:
+            signal.signal(signal.SIGPIPE, signal.SIG_DFL)
         if sys.stdout is None:
             raise OSError("the output is closed")
-        self._text: Any = sys.stdout
-        if isinstance(self._text, io.TextIOWrapper):
-            self._text.reconfigure(errors="backslashreplace")
+        self._encoding = sys.stdout.encoding
+        self._file = io.BufferedWriter(io.FileIO(1, "wb", closefd=False))
 
     def line(self, text: str) -> None:
-        self._write(self._text, text + "\n")
+        self.bytes(f"{text}\n".encode(self._encoding, "backslashreplace"))
 
     def bytes(self, content: bytes) -> None:
-        self._write(self._text.buffer, content)
+        self._tried(lambda: self._file.write(content))
 
     def flush(self) -> None:
-        self._write(self._text, None)
+        self._tried(self._file.flush)
 
-    def _write(self, file: "IO[Any]", content: Any) -> None:
+    def _tried(self, call: Callable[[], Any]) -> None:
         try:
-            file.flush() if content is None else file.write(content)
+            call()
         except OSError as why:
             _leave(1)
             raise OSError(f"the output can't be written: {why.strerror}") from why

@@ -7,7 +7,8 @@ from typing import Any, BinaryIO, Callable, NoReturn, Optional, Sequence, Tuple
 
 from mvt import MvtError, NoLayer, Refused
 
-from ._ending import MEMORY, UNREAD, USAGE, bound_memory, hold_places, of_system, say
+from . import bounds
+from ._ending import MEMORY, UNREAD, USAGE, Output, bound_memory, hold_places, of_system, say
 from ._shown import shown
 from .stores import Options, Store, StoreError, files, found, place_of
 from .stores.archive import ZSTD, ArchiveError
@@ -32,6 +33,11 @@ class GivenError(Exception):
 
 class Words(argparse.ArgumentParser):
     """A command line. What is wrong with it is told in one line."""
+
+    def print_help(self, file: Any = None) -> None:
+        output = Output()
+        output.line(self.format_help().rstrip())
+        output.flush()
 
     def error(self, message: str) -> NoReturn:
         say(self.prog, f"{message}; {self.prog} --help says more")
@@ -67,8 +73,10 @@ def _read(file: Any) -> bytes:
     source: BinaryIO = file.buffer
     held = bytearray()
     for piece in iter(lambda: source.read(_PIECE), b""):
+        if piece is None:
+            raise OSError("the input has nothing yet, and doesn't wait")
         held += piece
-        if len(held) > files.MOST:
+        if len(held) > bounds.FILE:
             break
     return bytes(held)
 

@@ -8,7 +8,7 @@ from typing import Any, Dict, Iterator, List, Optional, Sequence, Set
 from mvt import rows
 from mvt.geojson.making import DECIMALS, Part, objects_of, parts_of
 
-from . import _given
+from . import _given, foreign
 from ._ending import USAGE, Output, say
 
 COMMAND = "mvt-geojson"
@@ -41,9 +41,10 @@ def _parser() -> argparse.ArgumentParser:
 
 
 def _precision(word: str) -> int:
-    if not (word.isascii() and word.isdecimal() and len(word) < 3 and int(word) <= 15):
+    decimals = foreign.whole(word, 0, 15)
+    if decimals is None:
         raise argparse.ArgumentTypeError(f"{word!r} is no number of decimals from 0 to 15")
-    return int(word)
+    return decimals
 
 
 class _Writer:

@@ -4,8 +4,11 @@ import argparse
 import sys
 from typing import Optional, Sequence
 
+from mvt import LIMIT
+
 from . import _given
 from ._ending import USAGE, Output
+from .bounds import FILE
 
 COMMAND = "mvt-tile"
 
@@ -15,7 +18,7 @@ def _parser() -> argparse.ArgumentParser:
         prog=COMMAND,
         usage="mvt-tile STORE Z/X/Y [--raw] > tile.mvt",
         description="Writes a tile of a store, unpacked.",
-        epilog="Status: 0 it is written, 1 it doesn't unpack, 2 the command can't be done as it is, 3 something can't be"
+        epilog="Status: 0 it is written, 1 it doesn't unpack or is too large, 2 the command can't be done as it is, 3 something can't be"
         " read or written, 4 there is too little memory. The tile isn't judged.",
     )
     words.add_argument(
@@ -34,8 +37,11 @@ def _work(words: Optional[Sequence[str]]) -> int:
     if what is None:
         raise _given.GivenError(USAGE, "out of which store? say it before the place")
     content = _given.stored(what, place, given.raw)
+    tile, most = (content, FILE - 1) if given.raw else (_given.plain(content), LIMIT)
+    if len(tile) > most:  # what was read is the front
+        raise _given.GivenError(_given.REFUSED, f"it has more than {most:,} bytes, which no tile has")
     output = Output()
-    output.bytes(content if given.raw else _given.plain(content))
+    output.bytes(tile)
     output.flush()
     return 0
 

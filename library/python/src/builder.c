@@ -122,8 +122,7 @@ static PyObject *drop(PyObject *self, PyObject *unused) {
 
 static PyObject *rows(PyObject *self, PyObject *unused) {
     (void)unused;
-    mvt_tile tile;
-    return build_rows(to(self), &tile) < 0 ? NULL : flat_copied((state *)to(self)->of, &tile);
+    return build_rows(to(self));
 }
 
 static PyObject *finish(PyObject *self, PyObject *unused) {

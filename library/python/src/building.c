@@ -42,8 +42,9 @@ static PyObject *error_taken(const state *of, PyObject **class) {
 }
 
 /* Raises the error again, with the place: the layer, by a name or a version, the feature, whose number is -1 where there is
- * none, and what of it, with its name where it has one. */
+ * none, and what of it, with its name where it has one. Errors and names tell themselves, and may end the layer meanwhile. */
 static int raise_at(const building *to, const char *layer, PyObject *called, int64_t feature, const char *what, PyObject *name) {
+    Py_INCREF(called);
     PyObject *class = NULL, *told = error_taken(to->of, &class), *quoted = NULL;
     char number[32] = "";
     if (feature >= 0) snprintf(number, sizeof number, ", feature %lld", (long long)feature);
@@ -53,12 +54,18 @@ static int raise_at(const building *to, const char *layer, PyObject *called, int
                      name == NULL ? "" : " ", quoted, "", told);
     Py_XDECREF(quoted);
     Py_XDECREF(told);
+    Py_DECREF(called);
     return -1;
+}
+
+/* In a feature of the layer. Where what was given has ended the layer, that is what is raised. */
+static int raise_in(const building *to, int64_t feature, const char *what, PyObject *name) {
+    return need_layer(to) < 0 ? -1 : raise_at(to, "layer", to->layer, feature, what, name);
 }
 
 /* In the layer, and the feature if one is begun. */
 static int raise_here(const building *to, const char *what, PyObject *name) {
-    return raise_at(to, "layer", to->layer, to->in_feature ? (int64_t)to->ended : -1, what, name);
+    return raise_in(to, to->in_feature ? (int64_t)to->ended : -1, what, name);
 }
 
 /* What is gathered */
@@ -199,7 +206,7 @@ int build_feature(building *to, PyObject *kind_named, PyObject *id) {
     uint64_t number = 0;
     const int kind = kind_given(to, kind_named);
     const int is_wrong = kind < 0 || (id != Py_None && number_given(id, UINT64_MAX, &number) < 0);
-    if (is_wrong) return raise_at(to, "layer", to->layer, (int64_t)to->ended + to->in_feature, kind < 0 ? "" : "id", NULL);
+    if (is_wrong) return raise_in(to, (int64_t)to->ended + to->in_feature, kind < 0 ? "" : "id", NULL);
     if (need_layer(to) < 0) return -1;
     const uint32_t status = end_feature(to);
     if (status != MVT_OK) return raise_status(to, status);
@@ -257,12 +264,14 @@ int build_drop(building *to) {
     return 0;
 }
 
-/* The rows of the tile so far, which stay the builder's. Ends the layer. */
-int build_rows(building *to, mvt_tile *rows) {
+/* The rows of the tile so far, which are copied before the layer ends: its name's end may call the builder. */
+PyObject *build_rows(building *to) {
+    mvt_tile rows;
     end_feature(to);
-    if (raise_status(to, mvt_builder_rows(&to->rows, rows)) < 0) return -1;
+    if (raise_status(to, mvt_builder_rows(&to->rows, &rows)) < 0) return NULL;
+    PyObject *copied = flat_copied((state *)to->of, &rows);
     begin_layer(to, NULL);
-    return 0;
+    return copied;
 }
 
 /* The canonical bytes. The builder begins anew, whatever comes of it; what another thread adds meanwhile is of the next

@@ -141,7 +141,7 @@ int build_foreign(building *to, PyObject *version, PyObject *content);
 int build_feature(building *to, PyObject *kind, PyObject *id);
 int build_tag(building *to, PyObject *key, PyObject *value);
 int build_drawn(building *to, int kind, int exterior, PyObject *given);
-int build_rows(building *to, mvt_tile *rows);
+PyObject *build_rows(building *to);
 PyObject *build_finish(building *to);
 int build_at(building *to, PyObject *text, PyObject *value, uint32_t *index);
 int build_tag_at(building *to, PyObject *key, PyObject *value);

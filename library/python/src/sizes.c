@@ -2,8 +2,8 @@
  * say, which is that of the canonical form but for unused keys and values. */
 #include "module.h"
 
-/* Of a tile with more layers, or a layer with more keys, the rest is summed up. */
-enum { MOST_NAMED = 256 };
+/* Of a tile with more layers, or a layer with more keys, the rest is summed up; of a name the first bytes are told. */
+enum { MOST_NAMED = 256, MOST_OF_NAME = 200 };
 
 typedef struct {
     const mvt_tile *tile;
@@ -111,8 +111,19 @@ static sizes measure_layer(measuring *of, const mvt_layer *layer) {
     return to;
 }
 
+/* A name, or its first letters and a mark. */
 static PyObject *name_told(const mvt_tile *tile, mvt_span text) {
-    return PyUnicode_DecodeUTF8((const char *)tile->texts + text.start, (Py_ssize_t)text.len, "replace");
+    static const char MARK[] = "\xe2\x80\xa6";
+    char cut[MOST_OF_NAME + sizeof MARK];
+    const char *name = (const char *)tile->texts + text.start;
+    size_t len = text.len;
+    if (len > MOST_OF_NAME) {
+        for (len = MOST_OF_NAME; len > 0 && (name[len] & 0xc0) == 0x80;) --len;
+        memcpy(cut, name, len);
+        memcpy(cut + len, MARK, sizeof MARK);
+        name = cut, len += sizeof MARK - 1;
+    }
+    return PyUnicode_DecodeUTF8(name, (Py_ssize_t)len, "replace");
 }
 
 /* The keys of a layer, each with its bytes; those behind the first ones under None. */
@@ -190,7 +201,8 @@ static PyObject *measured(PyObject *module, PyObject *words) {
 PyMethodDef SIZES_CALLS[] = {
     {"measured", measured, METH_VARARGS,
      "measured($module, tile, most=18446744073709551615, /)\n--\n\n"
-     "Of each layer the name or None, the number of features, the bytes, those of geometries, and each key with its bytes. None\n"
-     "for a tile that is refused, or whose rows would have more bytes than `most`."},
+     "Of each layer the name or None, the number of features, the bytes, those of geometries, and each key with its bytes. Names\n"
+     "and keys of more than 200 bytes are cut there. None for a tile that is refused, or whose rows would have more bytes than\n"
+     "`most`."},
     {NULL, NULL, 0, NULL},
 };

@@ -75,6 +75,8 @@ PyObject *encoded(const state *of, PyObject *text) {
 
 static int out_of_range(PyObject *number) {
     PyErr_Format(PyExc_OverflowError, "%S is out of range", number);
+    if (PyErr_ExceptionMatches(PyExc_ValueError)) /* of more digits than Python spells */
+        PyErr_SetString(PyExc_OverflowError, "a number of thousands of digits is out of range");
     return -1;
 }
 

@@ -88,3 +88,11 @@ def archive(tiles, leaf=None, internal=1, packed=1, deep=False, addressed=None, 
     head = HEADER.pack(b"PMTiles", 3, *sections, count, len(entries), len(entries), 1, internal, packed, 1, first, last, *bounds, 0, 0)
     assert len(head) >= 127
     return head[:127] + content + metadata + leaves + data
+
+
+def with_metadata(tiles, content):
+    """An archive whose metadata are these bytes, whatever they are."""
+    whole = archive(tiles)
+    numbers = list(HEADER.unpack(whole[:127]))
+    numbers[4:6] = len(whole), len(content)
+    return HEADER.pack(*numbers) + whole[127:] + content

@@ -111,6 +111,19 @@ def rows(folder, query, *values):
         return database.execute(query, values).fetchall()
 
 
+def held(path):
+    """The tiles of an MBTiles file by place, counted from the north, and its metadata."""
+    with closing(sqlite3.connect(path)) as database:
+        found = database.execute("select zoom_level, tile_column, tile_row, tile_data from tiles").fetchall()
+        said = dict(database.execute("select name, value from metadata"))
+        assert database.execute("pragma integrity_check").fetchone() == ("ok",)
+    return {(z, x, (1 << z) - 1 - y): data for z, x, y, data in found}, said
+
+
+def files(folder):
+    return {str(path.relative_to(folder)): path.read_bytes() for path in Path(folder).rglob("*") if path.is_file()}
+
+
 class Case(unittest.TestCase):
     """A test with a folder of its own."""
 
@@ -129,4 +142,4 @@ class Case(unittest.TestCase):
         self.assertEqual(error.count("\n"), 1, error)
 
 
-__all__ = ["AUDIT", "EVIDENCE", "FOUND", "Case", "audit", "at_places", "example_tiles", "json", "make_mbtiles", "make_tree", "packings", "rows", "said_by_program", "signal", "start"]
+__all__ = ["AUDIT", "EVIDENCE", "FOUND", "Case", "audit", "at_places", "example_tiles", "files", "held", "json", "make_mbtiles", "make_tree", "packings", "rows", "said_by_program", "signal", "start"]

@@ -89,6 +89,15 @@ def test_a_description_of_another_form_is_one_line(said, tmp_path):
     assert len([line for line in out.splitlines() if line.startswith("metadata: its description can't be read: ")]) == 1
 
 
+def test_nothing_is_told_of_a_description_that_a_link_leads_to(tmp_path):
+    (tmp_path / "secret.json").write_text('{"vector_layers": [{"id": "secret"}]}')
+    folder = make_tree(tmp_path / "tree", TILES)
+    (folder / "metadata.json").symlink_to(tmp_path / "secret.json")
+    _, out, _ = audit(folder, "--into", tmp_path / "audit")
+    assert "metadata: its description can't be read: metadata.json is a link that leads out of the store\n" in out
+    assert "“secret”" not in out + (tmp_path / "audit" / "report.html").read_text()
+
+
 def test_what_says_nothing_differs_in_nothing(tmp_path):
     for store in (make_tree(tmp_path / "tree", TILES), make_mbtiles(tmp_path / "a.mbtiles", TILES)):
         _, out, _ = audit(store, "--into", tmp_path / f"of {store.name}")
@@ -111,3 +120,23 @@ def test_broken_tiles_hide_no_layer(tmp_path):
         database.execute("insert into tiles values (3, 0, 0, ?)", (gzip.compress(example_tiles()["20-ZeroSegment"]),))
     status, out, _ = audit(path, "--into", tmp_path / "audit")
     assert status == 1 and "metadata: " not in out
+
+
+NUMBERS = [
+    ('{"minzoom": 1e400, "maxzoom": 5}', "minzoom and maxzoom are no zooms"),
+    ('{"minzoom": 0, "maxzoom": 1' + "0" * 400 + "}", "minzoom and maxzoom are no zooms"),
+    ('{"minzoom": -1, "maxzoom": 5}', "minzoom and maxzoom are no zooms"),
+    ('{"bounds": [0, 0, 1e308, 1]}', "bounds are no four numbers of degrees"),
+    ('{"bounds": [0, 0, 1e400, 1]}', "bounds are no four numbers of degrees"),
+    ('{"bounds": [0, 0, 1' + "0" * 400 + ", 1]}", "bounds are no four numbers of degrees"),
+]
+
+
+@pytest.mark.parametrize("said, why", NUMBERS, ids=range(len(NUMBERS)))
+def test_numbers_that_are_too_large_are_a_line(tmp_path, said, why):
+    folder = make_tree(tmp_path / "tree", TILES)
+    (folder / "metadata.json").write_text(said)
+    status, out, error = audit(folder, "--into", tmp_path / "audit")
+    assert (status, error) == (0, "")
+    assert f"metadata: its description can't be read: {why}\n" in out
+    assert "can&#x27;t be read" in (tmp_path / "audit" / "report.html").read_text()

@@ -70,7 +70,7 @@ def test_a_small_file_system(large, tmp_path):
         subprocess.run(["umount", "-l", room], check=True)
 
 
-@pytest.mark.parametrize("name", ["audit.sqlite", "report.html", "report.html.unfinished"])
+@pytest.mark.parametrize("name", ["audit.sqlite", "report.html", "report.html.new"])
 def test_a_folder_where_a_file_of_the_results_should_be(store, tmp_path, name):
     (tmp_path / "audit" / name).mkdir(parents=True)
     (tmp_path / "audit" / name / "kept").write_text("")

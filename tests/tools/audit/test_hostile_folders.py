@@ -1,13 +1,18 @@
 """Folders, lists and files of strangers: what is no file, what can't be listed, and names that aren't those of tiles."""
 
+import json
 import os
 import socket
 import stat
+import tempfile
+from pathlib import Path
 
 import archives
 import pytest
 from common import at_places, make_mbtiles, make_tree
 from hostile import audited, in_time, listed, short, verdicts
+from hypothesis import given, settings
+from hypothesis import strategies as make
 from mvt_tools import stores
 from mvt_tools.stores import StoreError, files
 from mvt_tools.page.given import Given, GivenError
@@ -263,3 +268,41 @@ def test_a_key_that_is_no_line(key, tmp_path):
     for ask in (store.held, lambda key: list(store.since(key))):
         with pytest.raises(ValueError):
             ask(key)
+
+
+# ---- what a folder says of itself
+
+
+def with_metadata(folder, content):
+    make_tree(folder, {(0, 0, 0): TILE})
+    (folder / "metadata.json").write_bytes(content)
+    return stores.opened(str(folder))
+
+
+SAID = [b"", b"[", b"null", b"5", b'"a"', b"[" * 100_000, b'{"a":' * 100_000, b"\xff\xfe", b"9" * 5000, b'{"minzoom": ' + b"9" * 5000 + b"}"]
+
+
+@pytest.mark.parametrize("content", SAID, ids=short)
+def test_metadata_that_are_none(content, tmp_path):
+    with pytest.raises(ValueError):
+        with_metadata(tmp_path / "tree", content).metadata()
+
+
+def test_metadata_of_a_terabyte_in_a_hole(tmp_path):
+    store = with_metadata(tmp_path / "tree", b"{}")
+    os.truncate(tmp_path / "tree" / "metadata.json", 1 << 40)
+    with pytest.raises(ValueError):
+        store.metadata()
+    (tmp_path / "tree" / "metadata.json").unlink()
+    os.mkfifo(tmp_path / "tree" / "metadata.json")
+    assert store.metadata() == {}
+
+
+@settings(max_examples=200, deadline=None)
+@given(make.binary(max_size=50) | make.recursive(make.none() | make.floats() | make.integers() | make.text(max_size=5), make.lists).map(json.dumps).map(str.encode))
+def test_any_metadata_are_an_object_or_refused(content):
+    with tempfile.TemporaryDirectory() as room:
+        try:
+            assert isinstance(with_metadata(Path(room), content).metadata(), dict)
+        except ValueError:
+            pass

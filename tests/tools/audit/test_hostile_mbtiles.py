@@ -18,7 +18,7 @@ from common import at_places, make_mbtiles
 from hostile import audited, in_time, listed, short, verdicts
 from hypothesis import given, settings
 from hypothesis import strategies as make
-from mvt_tools import stores
+from mvt_tools import bounds, stores
 from mvt_tools.stores import StoreError, sqlite
 from mvt_tools.stores.waiting import asked_while
 from mvt_tools.page.listing import key_of, spelled
@@ -216,7 +216,7 @@ NEVER = {
 
 @pytest.mark.parametrize("kind", NEVER)
 def test_what_never_ends_is_told_within_its_time(kind, tmp_path, monkeypatch):
-    monkeypatch.setattr(sqlite, "PATIENCE", 0.5)
+    monkeypatch.setattr(bounds, "ROW_SECONDS", 0.5)
     path = made(tmp_path / "a.mbtiles", NEVER[kind])
     for ask in (audited, lambda path: listed(path, most=5)):
         try:
@@ -433,3 +433,50 @@ def test_each_byte_of_a_small_file_may_be_changed(tmp_path):
                 ask(path)
             except (StoreError, OSError) as why:
                 assert "\n" not in str(why)
+
+
+# ---- what a file says of itself
+
+METADATA = ["create table metadata (name, value)"]
+_VALUES = (
+    make.none() | make.integers(-(2**63), 2**63 - 1) | make.floats() | make.binary(max_size=9) | make.text(make.characters(blacklist_categories=["Cs"]), max_size=9)
+    | make.sampled_from(["9e999", "1e400", "9" * 400, "[" * 100_000, '{"vector_layers": [1e999]}', "1,2,3," + "9" * 400])
+)  # fmt: skip
+_NAMES = make.sampled_from(["minzoom", "maxzoom", "bounds", "json", "format"]) | _VALUES
+
+
+def with_metadata(path, rows):
+    made(path, [*TABLES["bare"], *METADATA], numbered(GOOD))
+    with closing(sqlite3.connect(path)) as database, database:
+        database.executemany("insert into metadata values (?, ?)", rows)
+    return stores.opened(str(path))
+
+
+@settings(max_examples=100, deadline=None)
+@given(make.lists(make.tuples(_NAMES, _VALUES), max_size=6))
+def test_any_metadata_are_read(rows):
+    with tempfile.TemporaryDirectory() as room:
+        store = with_metadata(Path(room, "a.mbtiles"), rows)
+        assert set(store.metadata()) <= {"minzoom", "maxzoom", "bounds", "json"}
+        # A number that is none SQLite holds as null.
+        assert len(store.named()) == sum(None not in row and not any(each != each for each in row) for row in rows)
+
+
+BOMBS = {
+    "large rows": "with recursive c(x) as (select 1 union all select x + 1 from c limit 1000000) select x, zeroblob(16000000) from c",
+    "a large row": "select 'name', zeroblob(17000000)",
+    "many rows": "with recursive c(x) as (select 1 union all select x + 1 from c limit 1000000) select x, x from c",
+    "endless": "with recursive c(x) as (select 1 union all select x + 1 from c) select x, x from c",
+}
+
+
+@pytest.mark.parametrize("bomb", BOMBS)
+def test_more_metadata_than_a_copy_takes_are_told(bomb, tmp_path, memory):
+    path = made(tmp_path / "a.mbtiles", [*TABLES["bare"], f"create view metadata (name, value) as {BOMBS[bomb]}"], numbered(GOOD))
+    with pytest.raises(StoreError, match="its metadata are more than 8,388,608 bytes, or 10,000 rows"):
+        stores.opened(str(path)).named()
+
+
+def test_ten_thousand_rows_of_metadata_are_read(tmp_path):
+    rows = [(f"name {number}", f"value {number}") for number in range(10_000)]
+    assert with_metadata(tmp_path / "a.mbtiles", rows).named() == rows

@@ -18,12 +18,13 @@ from mvt_tools.stores import StoreError
 from mvt_tools.stores.tile_ids import id_of, place_of
 
 TILE = b"\x1a\x04\x78\x02\x0a\x00"
+BROKEN = b"\x1a\x09"
 # The entry of the first tile.
 ONE = (0, 1, 0, len(TILE))
 # So many ids there are, of the zooms 0 to 31.
 PLACES = (4**32 - 1) // 3
 # Where the header says what.
-ROOT, LEAVES, TILES, ADDRESSED = 8, 40, 56, 72
+ROOT, METADATA, LEAVES, TILES, ADDRESSED = 8, 24, 40, 56, 72
 
 
 @pytest.fixture(autouse=True)
@@ -153,6 +154,91 @@ def test_a_bomb_of_a_directory_is_told(made):
         audited(made(archive(bomb, internal=2)))
 
 
+# ---- compressions
+
+
+@pytest.fixture
+def zstd():
+    """What packs by zstd, frame by frame."""
+    return pytest.importorskip("zstandard", reason="zstandard isn't there").compress
+
+
+def rows_of(made, stored, packed):
+    """The rows of an archive of one tile, as it lies there."""
+    return audited(made(archives.archive({(0, 0, 0): stored}, packed=packed)))
+
+
+def test_a_zstd_that_is_cut_off_is_told(made, zstd):
+    whole = zstd(TILE * 40)
+    for end in range(1, len(whole)):
+        [row] = rows_of(made, whole[:end], 4)
+        assert (row.verdict, row.notes) == ("not unpacked", "zstd: cut off"), end
+
+
+def test_a_zstd_of_several_frames_is_all_of_them(made, zstd):
+    skipped = b"\x50\x2a\x4d\x18\3\0\0\0abc"
+    [row] = rows_of(made, skipped + zstd(TILE) + zstd(b"") + zstd(BROKEN) + skipped, 4)
+    assert row.verdict == "refused"
+    assert unpacked(zstd(TILE) + skipped + zstd(BROKEN), 4, 1000) == TILE + BROKEN
+
+
+@pytest.mark.parametrize("behind", [b"\0", b"more", b"\x28\xb5\x2f\xfd"])
+def test_what_stands_behind_a_zstd_is_told(behind, made, zstd):
+    [row] = rows_of(made, zstd(TILE) + behind, 4)
+    assert row.verdict == "not unpacked" and row.notes.startswith("zstd: ")
+
+
+def test_more_frames_of_zstd_than_a_tile_has_are_told(made, zstd):
+    [row] = rows_of(made, zstd(b"") * 5000, 4)
+    assert (row.verdict, row.notes) == ("not unpacked", "zstd: more than 4,096 frames")
+
+
+def test_a_bomb_of_zstd_is_too_large(made, zstd):
+    [row] = rows_of(made, zstd(b"\x7a" + archives.varint((1 << 27) - 5) + bytes(1 << 27)), 4)
+    assert (row.verdict, row.cause_name) == ("refused", "TooLarge")
+
+
+# ---- what an archive says of itself
+
+
+@pytest.mark.parametrize("said", [2**31, 2**40, 2**62, 2**63 - 1, 2**63, 2**64 - 1])
+def test_metadata_beyond_the_file_are_told(said, made):
+    for where in (METADATA, METADATA + 8):
+        path = made(changed(archive([ONE]), where, said))
+        assert verdicts(audited(path)) == {"0/0/0": "accepted"}
+        store = stores.opened(str(path))
+        store.check()
+        with pytest.raises(OSError, match="the metadata end at .*, and the file has"):
+            store.metadata()
+
+
+def test_metadata_of_a_terabyte_in_a_hole_are_told(made):
+    store = stores.opened(str(made(changed(archive([ONE]), METADATA + 8, 1 << 40), 1 << 41)))
+    store.check()
+    with pytest.raises(ValueError, match="its metadata have 1,099,511,627,776 bytes; 8,388,608 are the most"):
+        store.metadata()
+
+
+def with_metadata(made, content, internal=1):
+    """A store whose metadata are these bytes, as they lie there."""
+    whole = archive([ONE], internal=internal)
+    whole = changed(changed(whole, METADATA, len(whole)), METADATA + 8, len(content)) + content
+    store = stores.opened(str(made(whole)))
+    store.check()
+    return store
+
+
+def test_a_bomb_of_metadata_is_told(made):
+    with pytest.raises(ValueError, match="its metadata unpack to more than 8,388,608 bytes"):
+        with_metadata(made, gzip.compress(b"[" + b" " * 200_000_000 + b"]"), 2).metadata()
+
+
+@pytest.mark.parametrize("content", [b"[", b"[]", b"null", b"5", b"[" * 100_000, b"\xff\xfe", b"9" * 5000], ids=short)
+def test_metadata_that_are_no_object_are_told(content, made):
+    with pytest.raises(ValueError):
+        with_metadata(made, content).metadata()
+
+
 # ---- any bytes at all
 
 
@@ -197,13 +283,50 @@ def test_any_entries_are_rows_or_refused(entries, addressed):
 
 
 @settings(max_examples=200, deadline=None)
-@given(make.binary(max_size=200), make.sampled_from([1, 2]))
+@given(make.binary(max_size=200), make.sampled_from([1, 2, 3, 4]))
 def test_any_bytes_unpack_or_are_refused(content, compression):
-    for stored in (content, gzip.compress(content)[: len(content)]):
+    for stored in (content, gzip.compress(content)[: len(content)], b"\x28\xb5\x2f\xfd" + content):
         try:
-            assert len(unpacked(stored, compression, 1000)) <= max(1000, len(stored))
+            # What one piece of a few bytes unpacks to is 8 MiB at most.
+            assert len(unpacked(stored, compression, 1000)) <= 1000 + (1 << 23)
         except ArchiveError:
             pass
+
+
+@settings(max_examples=200, deadline=None)
+@given(make.binary(max_size=100), make.booleans(), make.sampled_from([1, 2]), make.binary(min_size=24, max_size=24))
+def test_any_metadata_are_an_object_or_refused(content, is_object, internal, head):
+    said = b'{"minzoom": ' + content + b"}" if is_object else content
+    with tempfile.TemporaryDirectory() as room:
+        path = Path(room, "a.pmtiles")
+
+        def made(whole):
+            # Zooms, bounds and the centre.
+            path.write_bytes(whole[:100] + head + whole[124:])
+            return path
+
+        try:
+            found = with_metadata(made, gzip.compress(said) if internal == 2 else said, internal).metadata()
+        except (OSError, ValueError):
+            return
+        assert isinstance(found, dict) and set(found) >= {"minzoom", "maxzoom", "bounds"}
+
+
+@settings(max_examples=200, deadline=None)
+@given(make.sampled_from([1, 2, 3, 4]), make.sampled_from([1, 2]), make.integers(0, 999), make.binary(max_size=9), make.booleans())
+def test_any_change_of_an_archive_is_rows_or_refused(packed, internal, at, put, is_cut):
+    pack = {1: bytes, 2: gzip.compress, 3: pytest.importorskip("brotli").compress, 4: pytest.importorskip("zstandard").compress}[packed]
+    tiles = {(z, 0, 0): pack(TILE * (z + 1)) for z in range(4)}
+    whole = archives.archive(tiles, leaf=2, internal=internal, packed=packed, said={"bounds": [0, 0, 1, 1]})
+    with tempfile.TemporaryDirectory() as room:
+        path = Path(room, "a.pmtiles")
+        at %= len(whole)
+        path.write_bytes(whole[:at] + put + (b"" if is_cut else whole[at + len(put) :]))
+        for ask in (audited, listed, lambda path: stores.opened(str(path)).check()):
+            try:
+                ask(path)
+            except (StoreError, OSError) as why:
+                assert "\n" not in str(why)
 
 
 @settings(max_examples=200, deadline=None)

@@ -13,26 +13,14 @@ from pathlib import Path
 
 import mvt
 from archives import archive
-from common import Case, at_places, audit, example_tiles, make_mbtiles, make_tree, packings, rows, start
+from common import Case, at_places, audit, example_tiles, files, held, make_mbtiles, make_tree, packings, rows, start
+from mvt_tools.audit.parts import Part
 
 EXAMPLES = example_tiles()
 # Two that are mended, one that isn't, a good one, and none at all.
 BROKEN = [EXAMPLES["20-ZeroSegment"], EXAMPLES["22-FirstRing"]]
 OTHERS = [EXAMPLES["10-NoName"], EXAMPLES["gdal"], b""]
 MENDED = [mvt.mend(tile).bytes for tile in BROKEN]
-
-
-def held(path):
-    """The tiles of an MBTiles file by place, counted from the north, and its metadata."""
-    with closing(sqlite3.connect(path)) as database:
-        found = database.execute("select zoom_level, tile_column, tile_row, tile_data from tiles").fetchall()
-        said = dict(database.execute("select name, value from metadata"))
-        assert database.execute("pragma integrity_check").fetchone() == ("ok",)
-    return {(z, x, (1 << z) - 1 - y): data for z, x, y, data in found}, said
-
-
-def files(folder):
-    return {str(path.relative_to(folder)): path.read_bytes() for path in Path(folder).rglob("*") if path.is_file()}
 
 
 class Mends(Case):
@@ -183,13 +171,14 @@ class GoesOn(Case):
         return part.exists() and not new.exists()
 
     def copied(self, part):
-        if part.is_dir():
-            return (part / "9").is_dir()
-        with closing(sqlite3.connect(f"file:{part}?mode=ro", uri=True)) as database:
-            try:
+        copy = part / "copy"
+        if copy.is_dir():
+            return (copy / "9").is_dir()
+        try:
+            with closing(sqlite3.connect(f"file:{copy}?mode=ro", uri=True)) as database:
                 return database.execute("select key from copying").fetchone() not in (None, ("null",))
-            except sqlite3.Error:
-                return False
+        except sqlite3.Error:
+            return False
 
     def tiles(self, count):
         some = [*BROKEN, OTHERS[0], EXAMPLES["postgis"]]
@@ -225,9 +214,9 @@ class GoesOn(Case):
 
     def test_a_store_that_changed_is_copied_anew(self):
         store, new = make_mbtiles(self.room / "a.mbtiles", at_places(BROKEN)), self.room / "new.mbtiles"
-        with closing(sqlite3.connect(self.room / "new.mbtiles.part")) as database, database:
-            database.execute("create table copying (digest text, key text, told text)")
-            database.execute("insert into copying values ('another', 'null', '{}')")
+        self.into.mkdir()
+        with closing(Part(new, self.into, "of another state")) as part:
+            part.whole.write_bytes(b"something")
         self.assertEqual(audit(store, "--into", self.into, "--mend", new)[0], 0)
         self.assertEqual(list(held(new)[0].values()), MENDED)
 

@@ -116,15 +116,30 @@ class Runs(Case):
         self.assertEqual(first.splitlines()[:9], second.splitlines()[:9])
         self.assertRegex(error, "all .* tiles are judged already")
 
-    def test_a_killed_worker_loses_nothing(self):
+    def cluster(self, count):
+        """The address of a scheduler, and its workers."""
         scheduler = Program("scheduler", "--host", "127.0.0.1", "--port", "0", "--no-dashboard")
         self.addCleanup(scheduler.end)
         address = scheduler.told(r"Scheduler at:\s+(tcp://\S+)").group(1)
         workers = []
-        for _ in range(2):
+        for _ in range(count):
             workers.append(Program("worker", address, "--nthreads", "1", "--no-nanny", "--no-dashboard"))
             self.addCleanup(workers[-1].end)
             workers[-1].told("Registered to")
+        return address, workers
+
+    def test_a_cluster_mends(self):
+        address, _ = self.cluster(1)
+        tree, new = self.room / "tree", self.room / "new"
+        status, out, error = audit(tree, "--into", self.into, "--mend", new, "--scheduler", address, "--json")
+        self.assertEqual(status, 1, error)
+        here = audit(tree, "--into", self.room / "here", "--mend", self.room / "other", "--json")[1]
+        found, wanted = (json.loads(each)["mended"] for each in (out, here))
+        self.assertEqual({**found, "into": None}, {**wanted, "into": None})
+        self.assertGreater(sum(found["tiles"].values()), 1)
+
+    def test_a_killed_worker_loses_nothing(self):
+        address, workers = self.cluster(2)
         workers[0].process.send_signal(signal.SIGSTOP)
         run = start(self.listed(100), "--into", self.into, "--scheduler", address, "--part", 100)
         was = -1

@@ -9,6 +9,7 @@ import mvt
 import pytest
 from common import EVIDENCE, audit, example_tiles, make_mbtiles, make_tree, rows
 from mvt._mvt import measured
+from mvt_tools import bounds
 from mvt_tools.audit import sizes
 from mvt_tools.stores import Address
 
@@ -105,8 +106,8 @@ def test_the_largest_are_the_same_whichever_part_comes_first():
 
 
 def test_names_beyond_the_most_are_summed_up(monkeypatch):
-    monkeypatch.setattr(sizes, "_NAMED", 5)
-    monkeypatch.setattr(sizes, "_NAMED_IN_ALL", 6)
+    monkeypatch.setattr(bounds, "NAMED", 5)
+    monkeypatch.setattr(bounds, "NAMED_IN_ALL", 6)
     tiles = [(Address(3, at, 0), tile_of([line(2, k=1)], f"layer {at}")) for at in range(40)]
     with held_of(tiles) as database:
         told = sizes.told(database)

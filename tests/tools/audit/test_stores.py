@@ -16,11 +16,12 @@ from contextlib import closing
 import mvt
 from common import Case, at_places, example_tiles, make_mbtiles, make_tree, packings
 from mvt_tools import stores
+from mvt_tools.bounds import MEMBERS
 from mvt_tools.stores.files import ReadAhead
 from mvt_tools.audit.judging import judged, judged_part
 from mvt_tools.audit.results import Block, Results
 from mvt_tools.stores import Address, StoreError
-from mvt_tools.stores.unpacking import LIMIT, MOST_MEMBERS, NotUnpacked, unpacked
+from mvt_tools.stores.unpacking import LIMIT, NotUnpacked, unpacked
 
 
 def all_of(store, size):
@@ -208,10 +209,10 @@ class Unpacking(unittest.TestCase):
 
     def test_many_members(self):
         one = gzip.compress(b"ab", mtime=0)
-        self.assertEqual(unpacked(one * MOST_MEMBERS), b"ab" * MOST_MEMBERS)
+        self.assertEqual(unpacked(one * MEMBERS), b"ab" * MEMBERS)
         self.assertEqual(unpacked((one + bytes(70_000)) * 50), b"ab" * 50)
         with self.assertRaisesRegex(NotUnpacked, "more than 4,096 members of gzip"):
-            unpacked(one * (MOST_MEMBERS + 1))
+            unpacked(one * (MEMBERS + 1))
         large = gzip.compress(bytes(LIMIT // 2), mtime=0)
         self.assertEqual(unpacked(large * 2), bytes(LIMIT))
         self.assertEqual(len(unpacked(large * 2 + one)), LIMIT + 1)

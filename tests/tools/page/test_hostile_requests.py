@@ -6,6 +6,7 @@ import os
 import re
 import socket
 import sqlite3
+import subprocess
 import time
 from contextlib import ExitStack, closing
 from email.message import Message
@@ -17,7 +18,7 @@ from hypothesis import strategies as some
 
 from make_stores import make_mbtiles
 from mvt_tools.page import admission, frames, listing
-from serving import TILES, Serving
+from serving import COMMAND, TILES, Serving
 
 GDAL = (TILES / "gdal.mvt").read_bytes()
 PORT = 4711
@@ -239,3 +240,12 @@ def test_a_length_that_is_only_told_takes_no_memory(serving):
         time.sleep(0.5)
         assert serving.memory("VmData") - before < 400
         is_there(serving)
+
+
+@pytest.mark.parametrize("env", [{}, {"PYTHONUNBUFFERED": "1"}], ids=["held back", "not held back"])
+def test_an_address_that_nobody_learns_is_told_in_a_line(env):
+    with open("/dev/full", "wb") as full:
+        for how in ({"stdout": full}, {"preexec_fn": lambda: os.close(1)}):
+            done = subprocess.run([*COMMAND, "--no-browser"], env={**os.environ, **env}, stderr=subprocess.PIPE, timeout=60, **how)
+            assert (done.returncode, done.stderr.count(b"\n")) == (3, 1), done.stderr
+            assert done.stderr.startswith(b"mvt-page: the output ")

@@ -9,8 +9,7 @@ import os
 from typing import Any, Dict, Iterator, List
 
 from .._shown import shown
-from .engine import EngineError, Finished, Task
-from .judging import judged_part
+from .engine import EngineError, Finished, Task, Work
 
 # How many parts wait at the scheduler for each worker, so that none of them is idle.
 AHEAD = 4
@@ -28,7 +27,7 @@ SETTINGS = {
 
 
 @contextlib.contextmanager
-def connected(scheduler: str) -> Iterator["Cluster"]:
+def connected(scheduler: str, work: Work) -> Iterator["Cluster"]:
     """The workers of a scheduler. Raises EngineError where none answers."""
     if importlib.util.find_spec("distributed") is None:
         raise EngineError("--scheduler wants Dask: pip install distributed, or Debian's python3-distributed")
@@ -46,23 +45,23 @@ def connected(scheduler: str) -> Iterator["Cluster"]:
             client.wait_for_workers(1, timeout=30)
         except asyncio.TimeoutError as why:
             raise EngineError(f"{shown(scheduler)}: the scheduler has no workers") from why
-        yield Cluster(dask, client)
+        yield Cluster(dask, client, work)
 
 
 class Cluster:
     """The workers of a scheduler."""
 
-    def __init__(self, dask: Any, client: Any) -> None:
+    def __init__(self, dask: Any, client: Any, work: Work) -> None:
         self.count = max(1, len(client.nthreads()))
         self.ahead = AHEAD * self.count
         # How many ended is the scheduler's matter.
         self.ended = 0
-        self._client = client
+        self._client, self._work = client, work
         self._waiting = dask.as_completed(with_results=True, raise_errors=False)
         self._handed: Dict[str, Task] = {}
 
     def hand(self, task: Task) -> None:
-        future = self._client.submit(judged_part, task.store, task.tiles, pure=False)
+        future = self._client.submit(self._work, task.store, task.tiles, pure=False)
         self._handed[future.key] = task
         self._waiting.add(future)
 

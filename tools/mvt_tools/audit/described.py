@@ -1,19 +1,21 @@
 """A store's description of itself (its zooms, bounds and vector_layers) against the tiles that it has."""
 
-import json
 import math
 from typing import Any, Dict, Iterator, List, NamedTuple, Optional, Set, Tuple
 
 from mvt.mercator import EDGE, column_of, row_of
 
+from .. import bounds, foreign
 from .._shown import shown
 from ..stores import MOST_ZOOM, Store, StoreError
+from .links import is_out
+from .metadata import FILE, UNREADABLE
 from .results import Results
 
-Bounds = Tuple[float, float, float, float]
-
-# Of long lists the rest is counted, and of a description only what is short is looked at.
-_SHOWN, _MOST_LAYERS = 6, 10_000
+# Of long lists the rest is counted.
+_SHOWN = 6
+# No zoom is larger.
+_MOST_ZOOM = 255
 
 
 class Description(NamedTuple):
@@ -21,17 +23,18 @@ class Description(NamedTuple):
     names any."""
 
     zooms: Optional[Tuple[int, int]]
-    bounds: Optional[Bounds]
+    bounds: Optional[foreign.Degrees]
     layers: Optional[Dict[str, Set[str]]]
 
 
 def differences(results: Results, store: Store) -> List[str]:
     """What is other than the store says, in sentences; nothing where it says nothing."""
     try:
-        said = store.metadata()
-        found = description(said)
-    except (OSError, StoreError, ValueError, RecursionError) as why:
-        return [f"its description can't be read: {shown(str(why))}"]
+        if store.kind == "folder" and is_out(store.path, FILE):
+            raise StoreError(f"{FILE} is a link that leads out of the store")
+        found = description(store.metadata())
+    except UNREADABLE as why:
+        return [f"its description can't be read: {shown(str(why) or 'out of memory')}"]
     return [*_of_zooms(results, store.path, found), *_of_bounds(results, store.path, found), *_of_layers(results, store.path, found)]
 
 
@@ -39,7 +42,7 @@ def description(said: Dict[str, Any]) -> Description:
     """As MBTiles, PMTiles and TileJSON have it. Raises ValueError for a member of another form."""
     layers = said.get("vector_layers")
     if layers is None and "json" in said:
-        held = json.loads(said["json"]) if isinstance(said["json"], str) else None
+        held = foreign.parsed(said["json"]) if isinstance(said["json"], str) else None
         layers = held.get("vector_layers") if isinstance(held, dict) else None
     return Description(_zooms(said), _bounds(said.get("bounds")), None if layers is None else _layers(layers))
 
@@ -47,35 +50,31 @@ def description(said: Dict[str, Any]) -> Description:
 def _zooms(said: Dict[str, Any]) -> Optional[Tuple[int, int]]:
     if said.get("minzoom") is None or said.get("maxzoom") is None:
         return None
-    try:
-        first, last = int(said["minzoom"]), int(said["maxzoom"])
-    except (TypeError, ValueError) as why:
-        raise ValueError("minzoom and maxzoom are no whole numbers") from why
+    first, last = (foreign.whole(said[name], 0, _MOST_ZOOM) for name in ("minzoom", "maxzoom"))
+    if first is None or last is None:
+        raise ValueError("minzoom and maxzoom are no zooms")
     return first, last
 
 
-def _bounds(given: Any) -> Optional[Bounds]:
+def _bounds(given: Any) -> Optional[foreign.Degrees]:
     if given is None:
         return None
-    parts = given.split(",") if isinstance(given, str) else given
-    try:
-        west, south, east, north = map(float, parts)
-    except (TypeError, ValueError) as why:
-        raise ValueError("bounds are no four numbers") from why
-    if not all(map(math.isfinite, (west, south, east, north))):
-        raise ValueError("bounds are no four numbers")
-    return west, south, east, north
+    found = foreign.degrees(given)
+    if found is None or any(abs(each) > bounds.DEGREES for each in found):
+        raise ValueError("bounds are no four numbers of degrees")
+    return found
 
 
 def _layers(given: Any) -> Dict[str, Set[str]]:
-    if not isinstance(given, list) or len(given) > _MOST_LAYERS:
+    """By names that are cut as those of tiles are."""
+    if not isinstance(given, list) or len(given) > bounds.LAYERS:
         raise ValueError("vector_layers is no list of layers")
     found = {}
     for each in given:
         if not isinstance(each, dict) or not isinstance(each.get("id"), str):
             raise ValueError("vector_layers has a layer without an id")
         fields = each.get("fields")
-        found[each["id"]] = set(fields) if isinstance(fields, dict) else set()
+        found[bounds.cut(each["id"])] = set(map(bounds.cut, fields)) if isinstance(fields, dict) else set()
     return found
 
 

@@ -5,6 +5,7 @@ import sqlite3
 from typing import Any, Callable, Dict, Iterator, List, NamedTuple, Optional, Protocol, Sequence, Tuple
 
 from ..stores import Store, StoreError
+from .judging import judged_part
 from .results import Added, Block, Done, Results
 
 # How many tiles wait for the workers at most, since their rows may all be in memory where the client is the slowest.
@@ -12,6 +13,8 @@ MOST_TILES = 8_000_000
 
 # What is told of each finished part.
 Told = Callable[[Added], None]
+# What a worker does with a part of a store.
+Work = Callable[[Store, Any], bytes]
 
 
 class EngineError(Exception):
@@ -30,7 +33,7 @@ class Task(NamedTuple):
 
 
 class Finished(NamedTuple):
-    """A part with what was found in it, as the bytes of a block; or None, and why no worker could finish it."""
+    """A part with what a worker made of it, such as the bytes of a block; or None, and why no worker could finish it."""
 
     task: Task
     content: Optional[bytes]
@@ -65,17 +68,17 @@ class Workers(Protocol):
 
 
 @contextlib.contextmanager
-def workers(count: int, scheduler: Optional[str]) -> Iterator[Workers]:
+def workers(count: int, scheduler: Optional[str], work: Work = judged_part) -> Iterator[Workers]:
     """So many processes of this machine, or the workers of a scheduler."""
     if scheduler is None:
         from .processes import Processes
 
-        with contextlib.closing(Processes(count)) as processes:
+        with contextlib.closing(Processes(count, work)) as processes:
             yield processes
     else:
         from .cluster import connected
 
-        with connected(scheduler) as cluster:
+        with connected(scheduler, work) as cluster:
             yield cluster
 
 

@@ -16,6 +16,7 @@ from mvt._mvt import looked_at
 from mvt._numbers import NOTES
 from mvt._remarks import finding_of, note_of
 
+from .. import bounds
 from ..stores import MOST_ZOOM, Address, Content, Store
 from ..stores.unpacking import LIMIT, NotUnpacked, tile_in
 from . import findings, sizes
@@ -153,7 +154,9 @@ class Judge:
         try:
             told = self._look(tile)
         except mvt.Refused as fault:
-            return Said(REFUSED, len(tile), *_columns(tile, fault, is_packed))
+            return _refused(tile, fault, is_packed)
+        except MemoryError:
+            return self._only_judged(tile, is_packed)
         self.measured = self._measure(tile)
         if told is None:
             return _accepted(len(tile))
@@ -170,9 +173,22 @@ class Judge:
             found=firsts,
         )
 
+    def _only_judged(self, tile: bytes, is_packed: bool) -> Said:
+        """What is said of a tile where there is memory to judge it, and no more."""
+        try:
+            mvt.judge(tile)
+        except mvt.Refused as fault:
+            return _refused(tile, fault, is_packed)
+        self.measured = []
+        return Said(ACCEPTED, len(tile), notes="what else is to be said of it takes too much memory")
+
 
 def _nothing(tile: bytes) -> sizes.Measured:
     return []
+
+
+def _refused(tile: bytes, fault: mvt.Refused, is_packed: bool) -> Said:
+    return Said(REFUSED, len(tile), *_columns(tile, fault, is_packed))
 
 
 @lru_cache(maxsize=5000)
@@ -325,8 +341,10 @@ def _columns(tile: bytes, fault: mvt.Refused, is_packed: bool) -> Tuple[Any, ...
     if is_packed and len(tile) > LIMIT and fault.cause != TOO_LARGE:
         return (None, None, None, None, LIMIT, TOO_LARGE, CAUSES[TOO_LARGE], f"the front breaks a rule too: {fault.line}")
     id = None if fault.feature_id is None else str(fault.feature_id)
-    return (fault.layer, fault.layer_name, fault.feature, id, fault.at, fault.cause, fault.name)
+    name = None if fault.layer_name is None else bounds.cut(fault.layer_name)
+    return (fault.layer, name, fault.feature, id, fault.at, fault.cause, fault.name)
 
 
 def _told(why: Optional[Exception]) -> str:
-    return (why.strerror if isinstance(why, OSError) else None) or str(why) or type(why).__name__
+    told = (why.strerror if isinstance(why, OSError) else None) or str(why) or type(why).__name__
+    return told[: bounds.WHY]

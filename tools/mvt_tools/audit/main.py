@@ -7,9 +7,9 @@ import os
 import sys
 import time
 from pathlib import Path
-from typing import Any, Dict, List, NoReturn, Optional, Sequence, Tuple
+from typing import Any, ContextManager, Dict, Iterator, List, NoReturn, Optional, Sequence, Tuple
 
-from .._ending import hold_places
+from .._ending import bound_memory, hold_places
 from .._shown import shown
 from ..stores import Options, State, Store, StoreError, found, opened, server_options
 from . import engine, mending, report, summary
@@ -66,17 +66,35 @@ def _given(words: Optional[Sequence[str]]) -> argparse.Namespace:
     given = parser.parse_args(server_options.words_of(words))
     if given.into is None and given.mend is None:
         parser.error("the following arguments are required: --into")
-    given.into = given.into or given.mend.with_name(f"{given.mend.name}.audit")
+    if given.into is None:
+        given.into = given.mend.with_name(f"{given.mend.name}.audit")
+        if os.path.lexists(given.into) and os.lstat(given.into).st_uid != os.geteuid():
+            raise ResultsError(f"{given.into}: is another user's; name a folder with --into")
     return given
 
 
-def _copy(given: argparse.Namespace, stores: List[Store], states: List[State]) -> Optional[Copy]:
+@contextlib.contextmanager
+def _copy(given: argparse.Namespace, results: Results, stores: List[Store], states: List[State]) -> Iterator[Optional[Copy]]:
     """The mended copy that is wanted, if one is."""
     if given.mend is None:
-        return None
+        yield None
+        return
     if len(stores) != 1:
         raise ResultsError("--mend takes one store")
-    return copy_of(stores[0], states[0], Path(os.path.abspath(given.mend)))
+    with contextlib.closing(copy_of(results, stores[0], states[0], Path(os.path.abspath(given.mend)))) as copy:
+        yield copy
+
+
+def _mend(
+    given: argparse.Namespace, results: Results, store: Store, state: State, copy: Copy, signals: Signals, found: Dict[str, Any]
+) -> None:
+    """Makes the mended copy, and adds it to what was found."""
+
+    def start() -> ContextManager[engine.Workers]:
+        return engine.workers(given.workers, given.scheduler, mending.mended_part)
+
+    found["mended"] = {"into": str(given.mend), **mending.mend(results, store, state, copy, start, signals.check)}
+    found["still_broken"] = mending.still_broken(found)
 
 
 def _stores(given: argparse.Namespace) -> Tuple[List[Store], List[State]]:
@@ -132,13 +150,11 @@ def _audit(given: argparse.Namespace, signals: Signals) -> int:
     stores, states = _stores(given)
     total, into = sum(state.tiles for state in states), Path(os.path.abspath(given.into))
     with contextlib.closing(Results(into, given.anew)) as results:
-        copy = _copy(given, stores, states)
         try:
-            found = _judge(given, results, stores, states, signals)
-            if copy is not None and not found["unfinished"]:
-                told = mending.mend(results, stores[0], states[0], copy, signals.check)
-                found["mended"] = {"into": str(given.mend), **told}
-                found["still_broken"] = mending.still_broken(found)
+            with _copy(given, results, stores, states) as copy:
+                found = _judge(given, results, stores, states, signals)
+                if copy is not None and not found["unfinished"]:
+                    _mend(given, results, stores[0], states[0], copy, signals, found)
         except BaseException:
             if signals.number is not None:
                 judged = sum(results.done(store.path).tiles for store in stores)
@@ -158,6 +174,7 @@ def main(words: Optional[Sequence[str]] = None) -> int:
     try:
         signals.heed()
         hold_places()
+        bound_memory()
         return _audit(_given(words), signals)
     except BaseException as why:
         if isinstance(why, SystemExit):

@@ -12,12 +12,12 @@ from collections import Counter, deque
 from multiprocessing import resource_tracker
 from multiprocessing.connection import Connection, wait
 from queue import SimpleQueue
-from typing import Any, Callable, Deque, Iterator, List, Optional, Tuple
+from typing import Deque, Iterator, List, Optional, Tuple
 
 from .._command import path_without_here
+from .._ending import bound_memory
 from .._shown import shown
-from ..stores import Store
-from .engine import EngineError, Finished, Task
+from .engine import EngineError, Finished, Task, Work
 from .judging import judged_part
 
 # A part is given up when so many processes have ended over it, and the audit when so many in a row end as they start.
@@ -31,19 +31,16 @@ _ENDS = (signal.SIGINT, signal.SIGTERM)
 
 _CONTEXT = multiprocessing.get_context("spawn")
 
-# What makes a block of a part of a store.
-Judge = Callable[[Store, Any], bytes]
-
 
 class _Worker:
     """A process, and the parts that it has: the first is the one that it is at."""
 
-    def __init__(self, judge: Judge) -> None:
+    def __init__(self, work: Work, shares: int) -> None:
         tasks, self._tasks = _CONTEXT.Pipe(duplex=False)
         self.found, found = _CONTEXT.Pipe(duplex=False)
         self.parts: Deque[Task] = deque()
         self.is_ready = False
-        self._process = _CONTEXT.Process(target=_work, args=(tasks, found, judge), daemon=True)
+        self._process = _CONTEXT.Process(target=_work, args=(tasks, found, work, shares), daemon=True)
         self._process.start()
         # The ends that it has itself: of a process that is gone the other ends tell so.
         tasks.close()
@@ -65,11 +62,11 @@ class _Worker:
 
 
 class Processes:
-    """So many processes, which judge parts. Where one ends, another takes its place and its parts."""
+    """So many processes, which do something with parts. Where one ends, another takes its place and its parts."""
 
-    def __init__(self, count: int, judge: Judge = judged_part) -> None:
+    def __init__(self, count: int, work: Work = judged_part) -> None:
         self.count, self.ahead = count, AHEAD * count
-        self._judge = judge
+        self._work = work
         # How many ended that nobody had asked to.
         self.ended = 0
         self._failed_starts = 0
@@ -111,7 +108,7 @@ class Processes:
             resource_tracker.ensure_running()
             held = signal.pthread_sigmask(signal.SIG_BLOCK, _ENDS)
             try:
-                self._workers.append(_Worker(self._judge))
+                self._workers.append(_Worker(self._work, self.count))
             finally:
                 signal.pthread_sigmask(signal.SIG_SETMASK, held)
 
@@ -183,15 +180,16 @@ def _started_from(folder: str) -> Iterator[None]:
             sys.path[:] = path
 
 
-def _work(tasks: Connection, found: Connection, judge: Judge) -> None:
-    """What a worker does until its client is gone."""
+def _work(tasks: Connection, found: Connection, work: Work, shares: int) -> None:
+    """What one of so many workers does until its client is gone."""
+    bound_memory(shares)
     signal.pthread_sigmask(signal.SIG_UNBLOCK, [signal.SIGTERM])
     waiting: "SimpleQueue[bytes]" = SimpleQueue()
     threading.Thread(target=_receive, args=(tasks, waiting), daemon=True).start()
     try:
         found.send(None)
         while True:
-            found.send(_done(waiting.get(), judge))
+            found.send(_done(waiting.get(), work))
     except OSError:
         os._exit(0)  # nobody hears it
 
@@ -205,10 +203,10 @@ def _receive(tasks: Connection, waiting: "SimpleQueue[bytes]") -> None:
         os._exit(0)
 
 
-def _done(task: bytes, judge: Judge) -> Tuple[Optional[bytes], str]:
-    """What is found in a part; or None, and why not."""
+def _done(task: bytes, work: Work) -> Tuple[Optional[bytes], str]:
+    """What is made of a part; or None, and why not."""
     try:
         store, tiles = pickle.loads(task)
-        return judge(store, tiles), ""
+        return work(store, tiles), ""
     except Exception as why:
         return None, shown(f"{type(why).__name__}: {why}", 300)

@@ -37,6 +37,9 @@ VERSION = 5
 # It is made when all tiles are in: while there is none, the rows of a block are copied as they stand.
 _INDEX = "create index if not exists tiles_not_accepted on tiles (verdict, cause, z) where verdict <> 'accepted'"
 
+# By it a count is found that is added to: there are as many as the tiles have names of layers.
+_COUNTS_INDEX = "create index if not exists counts_of on counts (layer_name, z)"
+
 # So many blocks are taken in at a time: SQLite has room for ten databases.
 _BLOCKS = 8
 
@@ -91,7 +94,7 @@ class Results:
     def __init__(self, folder: Path, anew: bool = False) -> None:
         folder.mkdir(parents=True, exist_ok=True)
         self.file = folder / "audit.sqlite"
-        self._lock = _locked(folder)
+        self._lock = locked(folder)
         try:
             if anew:
                 for end in ("", "-journal"):
@@ -113,6 +116,7 @@ class Results:
                 database.executescript(f"pragma page_size = 16384; begin; {SCHEMA} pragma user_version = {VERSION}; commit;")
             elif version != VERSION:
                 raise ResultsError(f"{self.file}: not made by this mvt-audit; --anew begins again")
+            database.execute(_COUNTS_INDEX)
             for number in range(_BLOCKS):
                 database.execute(f"attach ':memory:' as block{number}")
         except sqlite3.OperationalError:
@@ -241,12 +245,17 @@ def _count(database: sqlite3.Connection, name: str, table: str, columns: Iterabl
             database.execute(f"insert into main.{table} values (?{', ?' * (len(kind) + 1)})", (path, *kind, tiles))
 
 
-def _locked(folder: Path) -> int:
-    """The folder, held open and locked, since two runs would write the same rows."""
-    held = os.open(folder, os.O_RDONLY)
+def locked(folder: Path, how: int = os.O_RDONLY) -> int:
+    """The folder, held open and locked, since two runs would write the same. Raises OSError."""
+    held = os.open(folder, how)
     try:
         fcntl.flock(held, fcntl.LOCK_EX | fcntl.LOCK_NB)
     except OSError as why:
         os.close(held)
-        raise ResultsError(f"{folder}: another mvt-audit is at work here") from why
+        raise at_work(folder) from why
     return held
+
+
+def at_work(folder: Path) -> ResultsError:
+    """Of a folder that another run has."""
+    return ResultsError(f"{folder}: another mvt-audit is at work here")

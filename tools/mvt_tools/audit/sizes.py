@@ -8,14 +8,11 @@ from typing import Any, Dict, List, NamedTuple, Optional, Tuple
 
 from mvt._mvt import measured
 
+from .. import bounds
 from ..stores import Address
 
 # Of a zoom so many of the largest tiles are kept, and a tile of more bytes is counted as large: tippecanoe makes none.
 KEPT, LARGE = 3, 500_000
-# So many layers of a zoom, and so many keys, are counted by name in a part, and so many in the results; others under null.
-_NAMED, _NAMED_IN_ALL = 2_000, 20_000
-# Of a tile whose rows would have more bytes than this only the size is counted.
-_MOST_OF_ROWS = 1 << 28
 
 # A block has these without the store.
 _TABLES = {
@@ -42,7 +39,7 @@ Measured = List[Tuple[Optional[str], int, int, int, List[Tuple[Optional[str], in
 def measure(tile: bytes) -> Measured:
     """Nothing for a tile of too many rows."""
     try:
-        return measured(tile, _MOST_OF_ROWS) or []
+        return measured(tile, bounds.ROWS) or []
     except MemoryError:
         return []
 
@@ -75,7 +72,7 @@ class Sizes:
         self._zooms: Dict[Optional[int], _Zoom] = {}
         self._keys: Dict[Optional[str], Dict[Optional[str], int]] = {}
         # How many names more are counted.
-        self._layers_left, self._keys_left = _NAMED, _NAMED
+        self._layers_left, self._keys_left = bounds.NAMED, bounds.NAMED
 
     def add(self, address: Address, size: int, layers: Measured) -> None:
         """An accepted tile of so many bytes."""
@@ -105,19 +102,23 @@ class Sizes:
             zoom.keep(size, address, features)
 
     def _new_layer(self, zoom: "_Zoom", name: Optional[str]) -> "_Entry":
-        if self._layers_left == 0 and None in zoom.layers:
-            return zoom.layers[None]
-        place = name if self._layers_left else None
-        self._layers_left -= self._layers_left > 0
+        """The entry of a name that has none, or is too long to be one. Behind the most names there is one for all."""
+        place = None if name is None else bounds.cut(name)
+        if place not in zoom.layers:
+            if not self._layers_left:
+                place = None
+            else:
+                self._layers_left -= 1
         return zoom.layers.setdefault(place, ([0, 0, 0, 0], self._keys.setdefault(place, {})))
 
     def _new_key(self, keys: Dict[Optional[str], int], key: Optional[str], cost: int) -> None:
-        if self._keys_left:
-            self._keys_left -= 1
-            keys[key] = cost
-        else:
-            others = self._keys.setdefault(None, {})
-            others[None] = others.get(None, 0) + cost
+        place = None if key is None else bounds.cut(key)
+        if place not in keys:
+            if not self._keys_left:
+                keys, place = self._keys.setdefault(None, {}), None
+            else:
+                self._keys_left -= 1
+        keys[place] = keys.get(place, 0) + cost
 
     def write(self, database: sqlite3.Connection) -> None:
         def fill(table: str, rows: Any) -> None:
@@ -155,7 +156,7 @@ def _add_counts(database: sqlite3.Connection, block: str, store: str, table: str
     summed = [column.split()[0] for column in _TABLES[table] if column.split()[0] not in columns]
     named = ", ".join(columns)
     [held] = database.execute(f"select count(*) from main.{table}").fetchone()
-    if held >= _NAMED_IN_ALL and table != "zoom_sizes":
+    if held >= bounds.NAMED_IN_ALL and table != "zoom_sizes":
         same = " and ".join(f"ifnull(old.{column}, x'') = ifnull(new.{column}, x'')" for column in columns)
         known = f"exists (select 1 from main.{table} old where old.store = ?1 and {same})"
         named = ", ".join(f"case when {known} then {each} end" if each != "z" else each for each in columns)

@@ -178,8 +178,10 @@ def mended(found: Dict[str, Any]) -> List[str]:
     told, still = found["mended"], found["still_broken"]
     kinds = [f"{name} {count:,} in {told['kinds'][name]:,}" for name, count in _largest(told["changes"])]
     left_out = f"; {told['left_out']:,} couldn't be copied" if told["left_out"] else ""
+    links = f", {told['links']:,} of them links that lead out of the store" if told["links"] else ""
     return [
-        f"mended: {sum(told['tiles'].values()):,} of {told['copied']:,} tiles, in {shown(told['into'], _PATH)}{left_out}",
+        f"mended: {sum(told['tiles'].values()):,} of {told['copied']:,} tiles, in {shown(told['into'], _PATH)}{left_out}{links}",
+        *([f"metadata aren't in the copy: {told['metadata']}"] if told["metadata"] else []),
         f"changes, in how many tiles: {', '.join(kinds) or '-'}",
         f"still broken: {_few(_largest(still)) or 'none'}",
     ]

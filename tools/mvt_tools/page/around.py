@@ -5,11 +5,11 @@ from typing import Any, Dict, List, Optional, Sequence, Tuple
 import mvt
 from mvt._around import Around, Integer, Role, Step
 
+from ..bounds import POINTS
+
 # So many integers are shown before the fault and behind it.
 _AROUND = 4
-# So many points are drawn at most: the last ones before the fault.
-_DRAWN = 20_000
-# So many integers are looked at for each of them.
+# So many integers are looked at for each point that is drawn, the last ones before the fault.
 _LOOKED = 8
 _EXTENT = 4096
 # A cause of a feature's tags, round whose place stands the feature.
@@ -79,7 +79,7 @@ def _shape(at: int, around: Around) -> Optional[Dict[str, Any]]:
     count = roles.count(Role.MOVE_Y, 0, end) + roles.count(Role.LINE_Y, 0, end)
     if count == 0 and not is_inside:
         return None
-    paths = around.paths(end, max(0, end - _LOOKED * _DRAWN))
+    paths = around.paths(end, max(0, end - _LOOKED * POINTS))
     mark = paths[-1].points[-1] if paths else (0, 0)
     return {
         "kind": around.kind or 0,
@@ -93,7 +93,7 @@ def _shape(at: int, around: Around) -> Optional[Dict[str, Any]]:
 def _parts(paths: Sequence[Any]) -> List[List[Tuple[int, int]]]:
     """The last parts, a closed one with its first point again behind its last."""
     parts: List[List[Tuple[int, int]]] = []
-    left = _DRAWN
+    left = POINTS
     for points, is_closed, _ in reversed(paths):
         closed = [*points, points[0]] if is_closed else points
         parts.insert(0, closed[-left:])

@@ -21,19 +21,13 @@ import mvt
 from mvt._mvt import json_lent, lint_rows, lookalike, measured, survey_rows, svg_lent
 from mvt.geojson.making import Place, objects_of, parts_of
 
+from .. import bounds
 from ..stores import place_of
 from . import differ, frames, mending
 from .around import told as around_told
 from .frames import Part
 
-# The rows of a tile have at most so many bytes.
-MOST_ROWS = 1 << 30
-
 OK, REFUSED, NO_MEMORY, TOO_LARGE, NO_LAYER, BAD_NAME = range(6)
-# What there is round a fault has up to 72 times as many bytes as the tile; of tiles above so many bytes none is told.
-MOST_AROUND = 1 << 23
-# GeoJSON has at most so many bytes: a text stands there once for each feature that has it.
-_MOST_GEOJSON = 1 << 30
 
 # The pieces of an answer. Those that the library made aren't copied.
 Answer = List[Part]
@@ -65,7 +59,7 @@ def _surveyed(tile: mvt.Buffer) -> Answer:
 
 def _read(tile: mvt.Buffer) -> Answer:
     """The counts of rows, and the bytes of each list."""
-    rows = mvt.rows(tile, MOST_ROWS)
+    rows = mvt.rows(tile, bounds.ROWS_OF_PAGE)
     pieces: Answer = [struct.pack("<9Q", *(len(getattr(rows, name)) for name in _LISTS))]
     for content in map(memoryview, rows._lent()):
         pieces += [content, bytes(-len(content) % 8)]
@@ -93,7 +87,7 @@ def _around(tile: bytes) -> Answer:
     try:
         mvt.judge(tile)
     except mvt.Refused as fault:
-        if len(tile) <= MOST_AROUND:
+        if len(tile) <= bounds.AROUND:
             with suppress(MemoryError):
                 told = around_told(tile, fault)
     return [_spelled(told)]
@@ -104,7 +98,7 @@ def _canonical(tile: bytes) -> Answer:
     no memory for it, or where the tile is large."""
     made = mvt.rewrite(tile)
     found = None
-    if max(len(tile), len(made)) <= MOST_AROUND:
+    if max(len(tile), len(made)) <= bounds.AROUND:
         with suppress(MemoryError):
             found = differ.first_difference(tile, made)
     return [_spelled({"isSame": tile == made, "length": len(made), "difference": found})]
@@ -134,7 +128,7 @@ def _surveys(body: bytearray) -> Answer:
 
 def _sizes(tile: mvt.Buffer) -> Answer:
     """Of each layer the bytes, and those of its geometries, as JSON."""
-    layers = measured(tile, MOST_ROWS)
+    layers = measured(tile, bounds.ROWS_OF_PAGE)
     if layers is None:
         raise MemoryError
     return [_spelled([[bytes, geometry] for _, _, bytes, geometry, _ in layers])]
@@ -153,11 +147,11 @@ def _geojson(body: bytearray) -> Answer:
 
 def _collection(tile: memoryview, place: Optional[Place]) -> Answer:
     made = bytearray(b'{"type":"FeatureCollection","features":[')
-    for part in parts_of(mvt.rows(tile, MOST_ROWS)):
+    for part in parts_of(mvt.rows(tile, bounds.ROWS_OF_PAGE)):
         for each in objects_of(part, place):
             end = b",\n" if made[-1:] == b"}" else b"\n"
             made += end + json.dumps(each, ensure_ascii=False, separators=(",", ":"), allow_nan=False).encode()
-            if len(made) > _MOST_GEOJSON:
+            if len(made) > bounds.GEOJSON:
                 raise MemoryError
     return [bytes(made + b"\n]}\n")]
 

@@ -1,12 +1,13 @@
 """The connections that a server holds: so many at most, of which each waits so long for the head of a request."""
 
+import math
 import socket
 import threading
 import time
 from typing import Any, Dict
 
 # Since when a connection waits whose request is being answered.
-_NOT_WAITING = float("inf")
+_NOT_WAITING = math.inf
 
 
 class Connections:

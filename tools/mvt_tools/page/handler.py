@@ -12,6 +12,7 @@ from http.server import BaseHTTPRequestHandler
 from typing import TYPE_CHECKING, Any, Dict, List, NamedTuple, Optional, Sequence
 from urllib.parse import parse_qsl
 
+from .. import foreign
 from ..stores import MOST_ZOOM, Key, Store, StoreError, place_of
 from ..stores.unpacking import LIMIT
 from ..stores.waiting import asked_while
@@ -206,9 +207,10 @@ class Handler(BaseHTTPRequestHandler):
             raise Fault(411, "A body has a Content-Length, and comes in one piece.")
         if len(lengths) > 1 or re.fullmatch("[0-9]{1,18}", lengths[0]) is None:
             raise Fault(400, "This Content-Length is no number.")
-        if int(lengths[0]) > most:
+        length = foreign.spelled(lengths[0])
+        if length > most:
             raise Fault(413, f"A body has at most {most} bytes.")
-        return int(lengths[0])
+        return length
 
     def _body(self, length: int) -> bytearray:
         """The whole body, for which memory is taken as it comes. Raises ConnectionAbortedError where it ends early, or
@@ -290,7 +292,7 @@ def _number(word: str) -> int:
     """A number of a path. Raises Fault where it is none."""
     if re.fullmatch("0|[1-9][0-9]{0,9}", word) is None:
         raise Fault(404, "Nothing is here.")
-    return int(word)
+    return foreign.spelled(word)
 
 
 def _key(store: Store, what: Sequence[str], query: Dict[str, str]) -> Key:

@@ -7,6 +7,7 @@ from typing import Any, Dict, List, NamedTuple, Optional, Tuple
 
 import mvt
 
+from .. import foreign
 from ..audit.judging import ACCEPTED, BROKEN_VERDICTS, EMPTY, Judge, Said
 from ..stores import Address, Content, Key, NotYet, Store
 from ..stores.unpacking import NotUnpacked, unpacked
@@ -32,10 +33,7 @@ class Wish(NamedTuple):
 
 def key_of(told: str) -> Key:
     """A key as `told` spells it. Raises ValueError."""
-    try:
-        key = json.loads(told) if len(told) <= _LONGEST else None
-    except RecursionError as why:
-        raise ValueError("no key") from why
+    key = foreign.parsed(told) if len(told) <= _LONGEST else None
     if not isinstance(key, list) or not all(type(each) in (int, str) for each in key):
         raise ValueError("no key")
     return tuple(key)

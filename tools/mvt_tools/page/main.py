@@ -7,9 +7,11 @@ import sys
 import threading
 from contextlib import ExitStack
 from pathlib import Path
-from typing import Optional, Sequence
+from typing import Optional, Sequence, Tuple
 
-from .._ending import UNREAD, USAGE, bound_memory
+from .. import foreign
+from .._ending import UNREAD, USAGE, Output, bound_memory, of_system, say
+from .._given import Words
 from ..stores import server_options
 from . import launch
 from .given import Given, GivenError
@@ -22,11 +24,11 @@ _WAKES = 0.5
 
 
 def _parser() -> argparse.ArgumentParser:
-    words = argparse.ArgumentParser(
+    words = Words(
         prog="mvt-page",
         description="Shows tiles in the browser, in a page that only this machine can see.",
         epilog="Runs until Ctrl-C. Status: 0 it was ended, 2 the command line is wrong or the port is taken, 3 something"
-        " can't be read.",
+        " can't be read or written.",
     )
     words.add_argument(
         "what", nargs="*", metavar="WHAT",
@@ -42,13 +44,14 @@ def _parser() -> argparse.ArgumentParser:
 
 
 def _port(word: str) -> int:
-    if not word.isdecimal() or not 0 <= int(word) <= 65535:
+    port = foreign.whole(word, 0, 65535)
+    if port is None:
         raise argparse.ArgumentTypeError(f"{word!r} is no port, which is a number up to 65535")
-    return int(word)
+    return port
 
 
 def _fail(line: str, status: int) -> int:
-    print(f"mvt-page: {line}", file=sys.stderr)
+    say("mvt-page", line)
     return status
 
 
@@ -61,30 +64,38 @@ def _ended() -> threading.Event:
     return done
 
 
-def _say(server: Server) -> None:
-    print(f"The page is at {server.address}")
-    print("Only this machine can see it, and only who knows the address. It is there until Ctrl-C ends it.", flush=True)
+def _say(*lines: str) -> None:
+    """Raises OSError."""
+    output = Output(ends_with_reader=False)
+    for line in lines:
+        output.line(line)
+    output.flush()
 
 
-def _say_way(port: int) -> None:
+def _way(port: int) -> Tuple[str, str]:
     """How to reach the page from a machine with a screen."""
     came = os.environ.get("SSH_CONNECTION", "").split(" ")
     host, door = came[2:] if len(came) == 4 else ("THIS-MACHINE", "22")
     where = "" if door == "22" else f"-p {door} "
-    print("No browser was opened. From a machine that has one, go this way, and open the address there:")
-    print(f"    ssh -L {port}:127.0.0.1:{port} {where}{os.environ.get('USER', 'YOU')}@{host}", flush=True)
+    return (
+        "No browser was opened. From a machine that has one, go this way, and open the address there:",
+        f"    ssh -L {port}:127.0.0.1:{port} {where}{os.environ.get('USER', 'YOU')}@{host}",
+    )
 
 
 def _serve(server: Server, wants_browser: bool) -> int:
     done = _ended()
     threading.Thread(target=server.serve_forever, args=(0.2,), daemon=True).start()
     with ExitStack() as held:
-        _say(server)
+        _say(
+            f"The page is at {server.address}",
+            "Only this machine can see it, and only who knows the address. It is there until Ctrl-C ends it.",
+        )
         is_open = False
         if wants_browser and launch.has_screen():
             is_open = launch.opened(held.enter_context(launch.leading_file(server.address)))
         if wants_browser and not is_open:
-            _say_way(server.server_port)
+            _say(*_way(server.server_port))
         while not done.wait(_WAKES):
             pass
         server.shutdown()
@@ -92,8 +103,7 @@ def _serve(server: Server, wants_browser: bool) -> int:
     return ENDED
 
 
-def main(words: Optional[Sequence[str]] = None) -> int:
-    """Runs the command, until it is ended, and answers its status."""
+def _run(words: Optional[Sequence[str]]) -> int:
     given = _parser().parse_intermixed_args(server_options.words_of(words))
     try:
         page, what = _PAGE.read_bytes(), Given(given.what, server_options.options_of(given))
@@ -110,6 +120,14 @@ def main(words: Optional[Sequence[str]] = None) -> int:
     except OSError as why:
         return _fail(f"port {given.port}: {why.strerror}", USAGE)
     return _serve(server, not given.no_browser)
+
+
+def main(words: Optional[Sequence[str]] = None) -> int:
+    """Runs the command, until it is ended, and answers its status."""
+    try:
+        return _run(words)
+    except OSError as why:
+        return _fail(of_system(why), UNREAD)
 
 
 if __name__ == "__main__":

@@ -9,10 +9,11 @@ from mvt._mending import ROW, change_of
 from mvt._mvt import mend_rows
 from mvt._numbers import CHANGES
 
+from .. import bounds
 from .around import whole_shape
 
-# So many changes are told, and so many features are drawn, of tiles of so many bytes at most.
-_TOLD, _DRAWN, _MOST = 200, 6, 1 << 23
+# So many changes are told, and so many features are drawn.
+_TOLD, _DRAWN = 200, 6
 
 
 def told(tile: bytes) -> Tuple[bytes, Dict[str, Any]]:
@@ -23,7 +24,7 @@ def told(tile: bytes) -> Tuple[bytes, Dict[str, Any]]:
     counts = Counter(CHANGES[kind] for kind, *_ in ROW.iter_unpack(rows))
     features: List[Dict[str, Any]] = []
     with suppress(MemoryError):
-        features.extend(_features(tile, made, first) if len(tile) <= _MOST else ())
+        features.extend(_features(tile, made, first) if len(tile) <= bounds.AROUND else ())
     return made, {
         "kinds": [{"kind": kind, "count": count} for kind, count in counts.items()],
         "lines": list(map(str, first)),

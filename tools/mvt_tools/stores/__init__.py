@@ -10,6 +10,8 @@ from abc import ABC, abstractmethod
 from contextlib import closing
 from typing import Any, Callable, Dict, Iterator, List, NamedTuple, Optional, Sequence, Tuple, Union
 
+from .. import foreign
+
 # The modules of this package that have a kind of store, as their function `opened`.
 KINDS = ("server", "listed", "mbtiles", "pmtiles", "tree")
 GROUP = "mvt_tools.stores"
@@ -48,7 +50,7 @@ class Options(NamedTuple):
     north), how many requests there are at a time, and how many seconds one may take."""
 
     zooms: Optional[Tuple[int, int]] = None
-    bounds: Optional[Tuple[float, float, float, float]] = None
+    bounds: Optional[foreign.Degrees] = None
     requests: int = 8
     timeout: float = 30
 
@@ -128,6 +130,10 @@ class Store(ABC):
                 if each[0] != key:
                     yield each
 
+    def runs(self, key: Optional[Key]) -> Iterator[Tuple[Key, Address, Content]]:
+        """All tiles, or those behind a key. Equal ones that stand one behind another may be one, with the key of the last."""
+        return self.since(None) if key is None else self.after(key)
+
     def find(self, z: int, x: int, y: int) -> Optional[Key]:
         """The key of the tile at a place, or None. A store that waits tells the key without asking. Raises OSError."""
         return None
@@ -169,7 +175,7 @@ def place_of(words: Sequence[str]) -> Optional[Tuple[int, int, int]]:
     """z, x and y of a tile, perhaps beyond the world, where some stores have tiles too; None where the words are no place."""
     if len(words) != 3 or not all(re.fullmatch("0|[1-9][0-9]{0,9}", word) for word in words):
         return None
-    z, x, y = map(int, words)
+    z, x, y = map(foreign.spelled, words)
     return (z, x, y) if z <= MOST_ZOOM else None
 
 

@@ -5,13 +5,12 @@ import struct
 import zlib
 from typing import Any, Iterator, NamedTuple, Tuple
 
+from .. import bounds
 from .tile_ids import DEEPEST, first_of
 
 MAGIC = b"PMTiles"
 HEADER = 127
 
-# What a directory may have, stored and unpacked.
-MOST = 64_000_000
 # How many tiles an archive may name: one at each place.
 MOST_TILES = first_of(DEEPEST + 1)
 
@@ -20,9 +19,9 @@ _MVT = 1
 _TYPES = {1: "MVT", 2: "PNG", 3: "JPEG", 4: "WebP", 5: "AVIF"}
 NONE, GZIP, BROTLI, ZSTD = 1, 2, 3, 4
 _COMPRESSIONS = {NONE: "none", GZIP: "gzip", BROTLI: "brotli", ZSTD: "zstd"}
-_MODULES = {BROTLI: ("brotli", "python3-brotli"), ZSTD: ("zstandard", "python3-zstandard")}
+_MODULES = {BROTLI: ("brotli", "python3-brotli of Debian"), ZSTD: ("zstandard", "python3-zstandard of Debian 12")}
 # Few enough that what they unpack to is some megabytes at most.
-_BROTLI_STEP = 4
+_BROTLI_STEP, _ZSTD_STEP = 4, 256
 _ENDLESS = 1 << 64
 _EARLIER_BYTES = bytes(range(128, 256))
 
@@ -36,6 +35,11 @@ class Section(NamedTuple):
 
     offset: int
     length: int
+
+    def check(self, what: str, size: int) -> None:
+        """Raises ArchiveError where it lies beyond a file of so many bytes."""
+        if sum(self) > size:
+            raise ArchiveError(f"the {what} end at {sum(self):,}, and the file has {size:,} bytes")
 
 
 class Header(NamedTuple):
@@ -68,8 +72,7 @@ class Header(NamedTuple):
             _check_compression(what, code)
         root, metadata, leaves, tiles = (Section(*numbers[at : at + 2]) for at in (0, 2, 4, 6))
         for what, section in (("root directory", root), ("leaf directories", leaves), ("tiles", tiles)):
-            if sum(section) > size:
-                raise ArchiveError(f"the {what} end at {sum(section):,}, and the file has {size:,} bytes")
+            section.check(what, size)
         west, south, east, north = bounds
         return cls(
             root, leaves, tiles, numbers[8], internal, compression, metadata, (first, last), (west, south, east, north)
@@ -150,9 +153,7 @@ def unpacked(stored: bytes, compression: int, most: int) -> bytes:
     module: Any = importlib.import_module(_MODULES[compression][0])
     try:
         if compression == ZSTD:
-            reader = module.ZstdDecompressor(max_window_size=1 << 27).stream_reader(stored)
-            made: bytes = reader.read(most)
-            return made
+            return _unzstded(module.ZstdDecompressor(max_window_size=1 << 27), stored, most)
         return _unbrotlied(module.Decompressor(), stored, most)
     except (module.ZstdError if compression == ZSTD else module.error) as why:
         raise ArchiveError(f"{_COMPRESSIONS[compression]}: {why}") from why
@@ -180,16 +181,41 @@ def _unbrotlied(stream: Any, stored: bytes, most: int) -> bytes:
     return bytes(made)
 
 
+def _unzstded(decompressor: Any, stored: bytes, most: int) -> bytes:
+    """Of all frames, one behind the other."""
+    made, end = bytearray(), 0
+    for _ in range(bounds.MEMBERS):
+        frame, end = _frame(decompressor.decompressobj(), stored, end, most - len(made))
+        made += frame
+        if end == len(stored) or len(made) >= most:
+            return bytes(made)
+    raise ArchiveError(f"zstd: more than {bounds.MEMBERS:,} frames")
+
+
+def _frame(stream: Any, stored: bytes, at: int, most: int) -> Tuple[bytearray, int]:
+    """What the frame of zstd that begins somewhere has at most, and where the next begins."""
+    made = bytearray()
+    while not stream.eof and len(made) < most:
+        piece = stored[at : at + _ZSTD_STEP]
+        if not piece:
+            raise ArchiveError("zstd: cut off")
+        made += stream.decompress(piece)
+        at += len(piece)
+    return made, at - len(stream.unused_data)
+
+
 def _check_compression(what: str, code: int) -> None:
     if code not in _COMPRESSIONS:
         raise ArchiveError(f"the compression of its {what} is {code}; 1 (none) to 4 (zstd) are known")
     if code in _MODULES:
         name, package = _MODULES[code]
         try:
-            importlib.import_module(name)
-        except ImportError as why:
+            module: Any = importlib.import_module(name)
+            if code == ZSTD:
+                module.ZstdDecompressor().decompressobj().eof  # which an older one doesn't tell
+        except (ImportError, AttributeError) as why:
             raise ArchiveError(
-                f"its {what} are compressed by {_COMPRESSIONS[code]}, which wants the module {name} ({package} of Debian)"
+                f"its {what} are compressed by {_COMPRESSIONS[code]}, which wants the module {name} ({package})"
             ) from why
 
 

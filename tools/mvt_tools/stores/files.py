@@ -7,16 +7,10 @@ import re
 import stat
 from typing import Iterator, List, Tuple
 
+from .. import bounds, foreign
 from . import Address, Content
-from .unpacking import LIMIT
 
 _PLACE = re.compile(r"(?:.*/)?([0-9]{1,2})/([0-9]{1,10})/([0-9]{1,10})\.(?:mvt|pbf)(?:\.gz)?")
-
-# Of a larger file the front decides.
-MOST = LIMIT + (1 << 20)
-
-# Of what a store says of itself so much is read.
-MOST_SAID = 1 << 24
 
 # What isn't opened, by its kind in a file's mode.
 _OTHERS = {stat.S_IFDIR: "a folder", stat.S_IFIFO: "a pipe", stat.S_IFCHR: "a device", stat.S_IFBLK: "a device"}
@@ -31,7 +25,7 @@ def address_of(name: str) -> Address:
     shown = name.encode("utf-8", "surrogateescape").decode("utf-8", "backslashreplace")
     if place is None:
         return Address(None, None, None, shown)
-    z, x, y = map(int, place.groups())
+    z, x, y = map(foreign.spelled, place.groups())
     return Address(z, x, y, shown)
 
 
@@ -73,7 +67,7 @@ def front(path: str, length: int) -> bytes:
 def read(path: str) -> bytes:
     """A file, or the front that decides. Raises OSError."""
     with opened(path) as file:
-        return os.read(file.fileno(), MOST)
+        return os.read(file.fileno(), bounds.FILE)
 
 
 class ReadAhead:
@@ -90,7 +84,7 @@ class ReadAhead:
         held = len(self._held)
         if not 0 <= at <= held - length:
             self._ahead = min(max(2 * self._ahead, _LEAST_AHEAD), _MOST_AHEAD) if 0 < at <= held else 0
-            self._held, self._start, at = os.pread(self._file, max(length, self._ahead), offset), offset, 0
+            self._held, self._start, at = foreign.piece(self._file, offset, max(length, self._ahead)), offset, 0
         return self._held[at : at + length]
 
 

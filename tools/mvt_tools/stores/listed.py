@@ -5,10 +5,8 @@ import io
 import os
 from typing import BinaryIO, Iterator, List, Optional, Tuple, Union
 
+from .. import bounds
 from . import Address, Content, Key, Options, State, Store, StoreError, files
-
-# So long, in bytes, a line may be; a name that the system takes is shorter.
-_LONGEST = 8192
 
 
 def opened(path: str, options: Options = Options()) -> Optional["Listed"]:
@@ -71,8 +69,8 @@ class Listed(Store):
         try:
             with io.BufferedReader(files.opened(self.path)) as file:
                 at = _seek_line(file, start)
-                for line in iter(lambda: file.readline(_LONGEST), b""):
-                    if len(line) == _LONGEST and line[-1:] != b"\n":
+                for line in iter(lambda: file.readline(bounds.LINE), b""):
+                    if len(line) == bounds.LINE and line[-1:] != b"\n":
                         raise StoreError(f"{self.path}: no list: the line at byte {at:,} is longer than any name")
                     if line.strip():
                         yield at, os.fsdecode(line.rstrip(b"\r\n"))

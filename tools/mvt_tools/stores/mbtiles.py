@@ -8,9 +8,10 @@ import sqlite3
 from contextlib import closing, contextmanager
 from typing import Any, Dict, Iterator, List, NamedTuple, Optional, Tuple, Union
 
+from .. import foreign
 from .._shown import shown
+from ..bounds import FILE, SAID, SAID_ROWS
 from . import Address, Content, Key, Options, State, Store, StoreError, files
-from .files import MOST
 from .sqlite import Watched
 
 _MAGIC = b"SQLite format 3\0"
@@ -104,7 +105,7 @@ class MBTiles(Store):
 
     def metadata(self) -> Dict[str, Any]:
         names = ", ".join(f"'{name}'" for name in ("minzoom", "maxzoom", "bounds", "json"))
-        query = f"select name, case when length(value) <= {files.MOST_SAID} then value end from metadata where name in ({names})"
+        query = f"select name, case when length(value) <= {SAID} then value end from metadata where name in ({names})"
         try:
             with self._reading() as database:
                 if database.row("select 1 from sqlite_master where lower(name) = 'metadata'") is None:
@@ -113,15 +114,24 @@ class MBTiles(Store):
         except sqlite3.Error as why:
             raise self._error(why) from why
 
-    def named(self) -> Iterator[Tuple[Any, ...]]:
-        """All that its table of metadata says, in its order. Raises StoreError where it can't be read."""
-        query = f"select name, value from metadata where length(name) + length(value) <= {files.MOST_SAID} limit 10000"
+    def named(self) -> List[Tuple[Any, Any]]:
+        """All that its table of metadata says, in its order. Raises StoreError where it can't be read, or is too much."""
+        size = "length(name) + length(value)"
+        query = f"select name, case when {size} <= {SAID} then value end, {size} from metadata where {size} >= 0"
+        held: List[Tuple[Any, Any]] = []
+        left = SAID
         try:
             with self._reading() as database:
-                if database.row("select 1 from sqlite_master where lower(name) = 'metadata'") is not None:
-                    yield from database.rows(query)
+                if database.row("select 1 from sqlite_master where lower(name) = 'metadata'") is None:
+                    return []
+                for name, value, length in database.rows(f"{query} limit {SAID_ROWS + 1}"):
+                    left -= length
+                    if left < 0 or len(held) == SAID_ROWS:
+                        raise StoreError(f"{self.path}: its metadata are more than {SAID:,} bytes, or {SAID_ROWS:,} rows")
+                    held.append((name, value))
         except sqlite3.Error as why:
             raise self._error(why) from why
+        return held
 
     # A key is a place, or a row's number where no index has the places in order; and behind it how many rows further, where
     # a row has no place of its own.
@@ -213,7 +223,7 @@ class MBTiles(Store):
             low, high = self._ends(database)
             if low is None or high - low >= 8 * tiles:
                 self._numbers = None
-        return int(tiles)
+        return foreign.whole(tiles, 0, _BITS) or 0
 
     def _ends(self, database: Watched) -> Tuple[Any, ...]:
         """The first and the last number of a row."""
@@ -254,7 +264,7 @@ class MBTiles(Store):
             pass
         for last in range(last + 1, part.last + 1):
             try:
-                found = list(database.rows(query, (last, last)))
+                found = foreign.some(database.rows(query, (last, last)), 1)
             except sqlite3.Error as why:
                 yield Address(None, None, None, f"row {last}"), why
             else:
@@ -306,7 +316,7 @@ def _places(database: Watched, order: Tuple[str, ...], spot: Spot) -> List[Addre
     where, bound = _from(order, spot)
     columns = ", ".join(map(_named, order))
     try:
-        rows = list(database.rows(f"select {columns} from tiles {where} limit 2 offset {spot.behind}", bound))
+        rows = foreign.some(database.rows(f"select {columns} from tiles {where} limit 2 offset {spot.behind}", bound), 2)
     except sqlite3.Error:
         return []
     return [_address((None, *row)) if order == _PLACE else Address(None, None, None, f"row {row[0]}") for row in rows]
@@ -341,7 +351,7 @@ def _named(column: str) -> str:
     return f"case typeof({column}) when 'integer' then {column} else substr(cast({column} as text), 1, 100) end"
 
 
-_DATA = f"case when length(tile_data) <= {MOST} then tile_data end, length(tile_data)"
+_DATA = f"case when length(tile_data) <= {FILE} then tile_data end, length(tile_data)"
 
 
 def _selected(numbers: Optional[str]) -> str:
@@ -419,11 +429,11 @@ def _large(database: Watched, number: Optional[int], size: int) -> Union[bytes, 
     if number is not None and hasattr(database, "blobopen"):  # from Python 3.11 on
         try:
             with database.blobopen("tiles", "tile_data", number, readonly=True) as blob:
-                front: bytes = blob.read(MOST)
+                front: bytes = blob.read(FILE)
                 return front
         except sqlite3.Error:
             pass
-    return StoreError(f"it has {size:,} bytes, and {MOST:,} are read of a tile at most")
+    return StoreError(f"it has {size:,} bytes, and {FILE:,} are read of a tile at most")
 
 
 def _turned(z: int, y: int) -> int:

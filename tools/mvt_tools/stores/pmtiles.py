@@ -3,24 +3,18 @@ within a zoom along Hilbert's curve."""
 
 import errno
 import hashlib
-import json
 import os
 from contextlib import contextmanager
 from functools import lru_cache, partial
 from typing import Any, BinaryIO, Callable, Dict, Iterator, List, NamedTuple, Optional, Tuple, Union
 
+from .. import foreign
+from ..bounds import DIRECTORY, FAULTS, FILE, LEAVES, RUN, SAID
 from . import Address, Content, Key, Options, State, Store, StoreError, files
-from .archive import GZIP, HEADER, MAGIC, MOST, MOST_TILES, NONE, ArchiveError, Directory, Entry, Header, Section, unpacked
-from .files import MOST_SAID, ReadAhead
-from .files import MOST as MOST_OF_A_TILE
+from .archive import GZIP, HEADER, MAGIC, MOST_TILES, NONE, ArchiveError, Directory, Entry, Header, Section, unpacked
+from .files import ReadAhead
 from .tile_ids import first_of, id_of, place_of
 from .unpacking import LIMIT, NotUnpacked
-
-# How deep leaf directories may lie in one another.
-DEEPEST_LEAF = 8
-
-# From so many directories on that can't be read the rest isn't looked at.
-MOST_FAULTS = 100
 
 
 class Where(NamedTuple):
@@ -87,7 +81,7 @@ class PMTiles(Store):
         try:
             with self._reading() as file:
                 size, told = os.fstat(file.fileno()).st_size, os.fstat(file.fileno()).st_mtime_ns
-                front = os.pread(file.fileno(), HEADER, 0)
+                front = foreign.piece(file.fileno(), 0, HEADER)
                 tiles = self.header.addressed or self._counted(file)
         except OSError as why:
             raise StoreError(f"{self.path}: {why.strerror}") from why
@@ -128,11 +122,14 @@ class PMTiles(Store):
 
     def metadata(self) -> Dict[str, Any]:
         with self._reading() as file:
-            _, length = section = self.header.metadata
-            if length > MOST_SAID:
-                raise ValueError(f"its metadata have {length:,} bytes")
-            content = unpacked(os.pread(file.fileno(), length, section.offset), self.header.internal, MOST_SAID)
-        said = json.loads(content) if length else {}
+            offset, length = section = self.header.metadata
+            section.check("metadata", os.fstat(file.fileno()).st_size)
+            if length > SAID:
+                raise ValueError(f"its metadata have {length:,} bytes; {SAID:,} are the most")
+            content = unpacked(foreign.piece(file.fileno(), offset, length), self.header.internal, SAID + 1) if length else b"{}"
+        if len(content) > SAID:
+            raise ValueError(f"its metadata unpack to more than {SAID:,} bytes")
+        said = foreign.parsed(content)
         if not isinstance(said, dict):
             raise ValueError("its metadata are no object of JSON")
         first, last = self.header.zooms
@@ -142,15 +139,30 @@ class PMTiles(Store):
     # A key is a tile id, and 0 for the tile or 1 for what is wrong behind it.
 
     def since(self, key: Optional[Key]) -> Iterator[Tuple[Key, Address, Content]]:
-        first = (0, 0) if key is None else _checked(key)
+        for (last, is_fault), address, content in self._runs((0, 0) if key is None else _checked(key)):
+            if is_fault:
+                yield (last, 1), address, content
+                continue
+            for tile_id in range(last - address.tiles + 1, last + 1):
+                yield (tile_id, 0), Address(*place_of(tile_id)), content
+
+    def runs(self, key: Optional[Key]) -> Iterator[Tuple[Key, Address, Content]]:
+        tile_id, is_fault = (-1, 1) if key is None else _checked(key)
+        return self._runs((tile_id + is_fault, 1 - is_fault))
+
+    def _runs(self, first: Tuple[int, int]) -> Iterator[Tuple[Tuple[int, int], Address, Content]]:
+        """The tiles from a key on, as many of a run together as are copied at a time."""
         with self._reading() as file:
             content = self._contents(file)
             for found in self._entries(file, self._root(), first[0]):
-                if isinstance(found, Entry):
-                    for tile_id in range(max(found.tile_id, sum(first)), found.tile_id + found.run):
-                        yield (tile_id, 0), Address(*place_of(tile_id)), content(*found[2:])
-                elif (found.behind, 1) >= first:
-                    yield (found.behind, 1), Address(None, None, None, found.name), StoreError(found.why)
+                if isinstance(found, Fault):
+                    if (found.behind, 1) >= first:
+                        yield (found.behind, 1), Address(None, None, None, found.name), StoreError(found.why)
+                    continue
+                end = found.tile_id + found.run
+                for tile_id in range(max(found.tile_id, sum(first)), end, RUN):
+                    count = min(RUN, end - tile_id)
+                    yield (tile_id + count - 1, 0), Address(*place_of(tile_id), None, count), content(*found[2:])
 
     def first_key(self, z: int) -> Optional[Key]:
         return first_of(z), 0
@@ -193,14 +205,14 @@ class PMTiles(Store):
         return Where(self.header.root, 0, MOST_TILES)
 
     def _directory(self, file: BinaryIO, where: Where) -> Directory:
-        if where.section.length > MOST:
-            raise ArchiveError(f"it has {where.section.length:,} bytes; {MOST:,} are the most")
-        stored = os.pread(file.fileno(), where.section.length, where.section.offset)
+        if where.section.length > DIRECTORY:
+            raise ArchiveError(f"it has {where.section.length:,} bytes; {DIRECTORY:,} are the most")
+        stored = foreign.piece(file.fileno(), *where.section)
         if len(stored) < where.section.length:
             raise ArchiveError("the file ends in it")
-        content = unpacked(stored, self.header.internal, MOST + 1)
-        if len(content) > MOST:
-            raise ArchiveError(f"it unpacks to more than {MOST:,} bytes")
+        content = unpacked(stored, self.header.internal, DIRECTORY + 1)
+        if len(content) > DIRECTORY:
+            raise ArchiveError(f"it unpacks to more than {DIRECTORY:,} bytes")
         return Directory(content)
 
     def _opened(self, file: BinaryIO, where: Where, above: Tuple[Section, ...]) -> Directory:
@@ -210,8 +222,8 @@ class PMTiles(Store):
             raise ArchiveError(f"the leaf of tile id {where.low} ends beyond the {leaves.length:,} bytes of leaves")
         if where.section in above:
             raise ArchiveError("it leads in a circle")
-        if len(above) > DEEPEST_LEAF:
-            raise ArchiveError(f"it lies below more than {DEEPEST_LEAF} others")
+        if len(above) > LEAVES:
+            raise ArchiveError(f"it lies below more than {LEAVES} others")
         directory = self._directory(file, where)
         if above and directory.first() != where.low:
             raise ArchiveError(f"it begins with tile id {directory.first()}, and the one above says {where.low}")
@@ -269,7 +281,7 @@ class PMTiles(Store):
                 tiles += found.tiles
                 continue
             faults += 1
-            if faults == MOST_FAULTS:
+            if faults == FAULTS:
                 break
         return tiles
 
@@ -280,8 +292,8 @@ class PMTiles(Store):
             if isinstance(each, Fault):
                 yield each
                 faults += 1
-                if faults == MOST_FAULTS:
-                    yield Fault("directories", f"{MOST_FAULTS} can't be read; the rest isn't looked at")
+                if faults == FAULTS:
+                    yield Fault("directories", f"{FAULTS} can't be read; the rest isn't looked at")
                     return
                 continue
             found += each.tiles
@@ -315,7 +327,7 @@ class PMTiles(Store):
         tiles, end = header.tiles, offset + length
         if end > tiles.length:
             return StoreError(f"its bytes end at {end:,} of {tiles.length:,} bytes of tiles")
-        length = min(length, MOST_OF_A_TILE)
+        length = min(length, FILE)
         try:
             stored = read(tiles.offset + offset, length)
             if len(stored) < length:

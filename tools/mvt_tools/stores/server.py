@@ -5,7 +5,6 @@ import errno
 import hashlib
 import http.client
 import io
-import json
 import math
 import re
 import reprlib
@@ -23,16 +22,14 @@ from urllib.parse import urljoin, urlsplit
 import mvt
 from mvt.mercator import EDGE, column_of, row_of
 
+from .. import foreign
 from .._shown import shown
+from ..bounds import DEGREES, FILE, TILEJSON
 from . import Address, Content, Key, NotYet, Options, State, Store, StoreError
-from .files import MOST
 from .unpacking import NotUnpacked, unpacked
 
 DEEPEST = 30
-_MOST_OF_TILEJSON = 1 << 20
 _PIECE = 1 << 18
-# Bounds may lie some turns round the world.
-_MOST_DEGREES = 3600
 # A line has an address in it.
 _LONGEST = 1000
 _HOLE = re.compile(r"\{(z|x|y|-y)\}")
@@ -239,14 +236,12 @@ class Server(Store):
     def _tilejson(self) -> Dict[str, Any]:
         try:
             with closing(self._client()) as client:
-                answer = client.answer(self.path, _MOST_OF_TILEJSON)
-            said = json.loads(_plain(answer)) if answer.status == 200 else None
+                answer = client.answer(self.path, TILEJSON)
+            said = foreign.parsed(_plain(answer)) if answer.status == 200 else None
         except ServerError as why:
             raise StoreError(f"{self.path}: {why}") from why
         except ValueError as why:
             raise StoreError(f"{self.path}: no TileJSON: {why}") from why
-        except RecursionError as why:
-            raise StoreError(f"{self.path}: no TileJSON: its brackets are nested too deeply") from why
         if answer.status != 200:
             raise StoreError(f"{self.path}: {answer.status} {shown(answer.reason)}")
         if not isinstance(said, dict):
@@ -320,7 +315,7 @@ class _Client:
     def content(self, address: str) -> Content:
         """The body of a tile as it is stored; None where there is no tile."""
         try:
-            answer = self.answer(address, MOST)
+            answer = self.answer(address, FILE)
         except ServerError as why:
             return why
         if answer.status in _NOTHING_THERE:
@@ -483,8 +478,8 @@ def _plain(answer: Answer) -> bytes:
         plain = unpacked(answer.body)
     except NotUnpacked as why:
         raise ServerError(f"its gzip doesn't unpack: {why}") from why
-    if len(plain) > _MOST_OF_TILEJSON:
-        raise ServerError(f"no TileJSON: it has more than {_MOST_OF_TILEJSON:,} bytes")
+    if len(plain) > TILEJSON:
+        raise ServerError(f"no TileJSON: it has more than {TILEJSON:,} bytes")
     return plain
 
 
@@ -522,31 +517,27 @@ def _template_of(path: str, said: Dict[str, Any]) -> str:
 
 
 def _zooms_of(path: str, said: Dict[str, Any]) -> Tuple[int, int]:
-    zooms = said.get("minzoom", 0), said.get("maxzoom", DEEPEST)
-    if not all(isinstance(zoom, int) and 0 <= zoom <= DEEPEST for zoom in zooms) or zooms[0] > zooms[1]:
-        raise StoreError(f"{path}: this TileJSON says the zooms {shown(reprlib.repr(zooms))}")
+    told = said.get("minzoom", 0), said.get("maxzoom", DEEPEST)
+    first, last = (None if isinstance(zoom, str) else foreign.whole(zoom, 0, DEEPEST) for zoom in told)
+    if first is None or last is None or first > last:
+        raise StoreError(f"{path}: this TileJSON says the zooms {shown(reprlib.repr(told))}")
     if "maxzoom" not in said:
         raise StoreError(f"{path}: this TileJSON has no 'maxzoom'; say --zooms 0-14, for example")
-    return zooms
+    return first, last
 
 
-def _bounds_of(path: str, said: Dict[str, Any]) -> Optional[Tuple[float, float, float, float]]:
-    bounds = said.get("bounds")
-    if bounds is None:
+def _bounds_of(path: str, said: Dict[str, Any]) -> Optional[foreign.Degrees]:
+    """The bounds, if it says some. What lies beyond the edge of the map is cut off there."""
+    told = said.get("bounds")
+    if told is None:
         return None
-    if not isinstance(bounds, list) or len(bounds) != 4 or not all(map(_is_degrees, bounds)):
-        raise StoreError(f"{path}: this TileJSON says the bounds {shown(reprlib.repr(bounds))}")
-    west, south, east, north = map(float, bounds)
-    return west, south, east, north
+    bounds = foreign.degrees(told)
+    if bounds is None or any(abs(each) > DEGREES for each in bounds):
+        raise StoreError(f"{path}: this TileJSON says the bounds {shown(reprlib.repr(told))}")
+    return bounds
 
 
-def _is_degrees(told: Any) -> bool:
-    """Whether it is a number that may be degrees: none that is infinite or no number at all. What lies beyond the edge of
-    the map is cut off there."""
-    return isinstance(told, (int, float)) and abs(told) <= _MOST_DEGREES
-
-
-def _blocks(zooms: Tuple[int, int], bounds: Tuple[float, float, float, float]) -> Iterator[Block]:
+def _blocks(zooms: Tuple[int, int], bounds: foreign.Degrees) -> Iterator[Block]:
     """The tiles of the zooms that lie within the bounds. Bounds whose west is beyond their east cross longitude 180."""
     west, south, east, north = bounds
     spans = [(west, east)] if west <= east else [(west, 180.0), (-180.0, east)]

@@ -4,10 +4,13 @@ import argparse
 import sys
 from typing import List, Optional, Sequence, Tuple
 
+from .. import foreign
 from . import Options, Store
 from .server import DEEPEST
 
 _OPTIONS = Options()
+# What an option says is no more; the system has no longer times.
+_MOST = 10**9
 
 
 def add_to(words: argparse.ArgumentParser) -> None:
@@ -50,24 +53,23 @@ def misplaced(given: argparse.Namespace, stores: Sequence[Store]) -> str:
 
 def positive(word: str) -> int:
     """A number from 1 on."""
-    if not word.isdecimal() or int(word) == 0:
-        raise argparse.ArgumentTypeError(f"{word!r} is no number from 1 on")
-    return int(word)
+    number = foreign.whole(word, 1, _MOST)
+    if number is None:
+        raise argparse.ArgumentTypeError(f"{word!r} is no number from 1 on, up to {_MOST:,}")
+    return number
 
 
 def _zooms(word: str) -> Tuple[int, int]:
-    first, _, last = word.partition("-")
-    last = last or first
-    if not (first.isdecimal() and last.isdecimal() and int(first) <= int(last) <= DEEPEST):
+    begin, _, end = word.partition("-")
+    first, last = foreign.whole(begin, 0, DEEPEST), foreign.whole(end or begin, 0, DEEPEST)
+    if first is None or last is None or first > last:
         raise argparse.ArgumentTypeError(f"{word!r} is no zoom and no range of zooms such as 0-14")
-    return int(first), int(last)
+    return first, last
 
 
-def _bounds(word: str) -> Tuple[float, float, float, float]:
-    try:
-        west, south, east, north = map(float, word.split(","))
-    except ValueError:
-        west = south = east = north = 999.0
-    if not (max(abs(west), abs(east)) <= 180 and -90 <= south <= north <= 90):
+def _bounds(word: str) -> foreign.Degrees:
+    bounds = foreign.degrees(word)
+    west, south, east, north = bounds or (999, 999, 999, 999)
+    if bounds is None or not (max(abs(west), abs(east)) <= 180 and -90 <= south <= north <= 90):
         raise argparse.ArgumentTypeError(f"{word!r} is no west,south,east,north in degrees")
-    return west, south, east, north
+    return bounds

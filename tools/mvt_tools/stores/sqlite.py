@@ -9,17 +9,12 @@ from contextlib import closing
 from pathlib import Path
 from typing import Any, Iterator, Optional, Tuple
 
+from .. import bounds
 from . import files
 from .waiting import alive
 
-# So many seconds the next row may take, and one more for so many bytes of the file.
-PATIENCE, BYTES_A_SECOND = 10.0, 1_000_000
 # After so many steps of SQLite's machine, about a millisecond, is looked whether it goes on.
 _STEPS = 10_000
-# What one value may have.
-_LONGEST = files.MOST + (1 << 20)
-# So much a question may name, views within views included: one of a few lines makes millions of them.
-_MOST_NAMED = 2000
 # What views of tiles call. Other functions may take for ever in one step.
 _FUNCTIONS = {
     *("coalesce", "ifnull", "iif", "nullif", "typeof", "abs", "length", "lower", "upper", "substr", "substring", "zeroblob"),
@@ -43,9 +38,9 @@ class Watched(sqlite3.Connection):
         if is_alone:
             self.execute("pragma locking_mode = exclusive")
         if hasattr(self, "setlimit"):  # from Python 3.11 on
-            self.setlimit(sqlite3.SQLITE_LIMIT_LENGTH, _LONGEST)
+            self.setlimit(sqlite3.SQLITE_LIMIT_LENGTH, bounds.VALUE)
         self.text_factory = _text
-        self._seconds = PATIENCE + size / BYTES_A_SECOND
+        self._seconds = bounds.ROW_SECONDS + size / bounds.ROW_BYTES_A_SECOND
         self._ends, self._named, self._is_denied = 0.0, 0, False
         self._why: Optional[BaseException] = None
         self.set_authorizer(self._allowed)
@@ -93,7 +88,7 @@ class Watched(sqlite3.Connection):
 
     def _allowed(self, action: int, _: Optional[str], function: Optional[str], *others: Optional[str]) -> int:
         self._named += 1
-        if self._named <= _MOST_NAMED and (action != sqlite3.SQLITE_FUNCTION or str(function).lower() in _FUNCTIONS):
+        if self._named <= bounds.NAMES_OF_A_QUESTION and (action != sqlite3.SQLITE_FUNCTION or str(function).lower() in _FUNCTIONS):
             return sqlite3.SQLITE_OK
         self._is_denied = True
         return sqlite3.SQLITE_DENY

@@ -1,11 +1,12 @@
 """A folder of files {z}/{x}/{y}.mvt or .pbf, each with or without .gz."""
 
 import hashlib
-import json
 import os
 import re
 from typing import Any, Dict, Iterator, List, Optional, Tuple
 
+from .. import foreign
+from ..bounds import SAID
 from . import Address, Content, Key, Options, State, Store, StoreError, files
 
 ENDINGS = (".mvt", ".pbf", ".mvt.gz", ".pbf.gz")
@@ -51,8 +52,8 @@ class Tree(Store):
         path = os.path.join(self.path, "metadata.json")
         if not os.path.isfile(path):
             return {}
-        content = files.front(path, files.MOST_SAID + 1)
-        said = json.loads(content) if len(content) <= files.MOST_SAID else None
+        content = files.front(path, SAID + 1)
+        said = foreign.parsed(content) if len(content) <= SAID else None
         if not isinstance(said, dict):
             raise ValueError("metadata.json is no object of JSON, or too large")
         return said
@@ -97,11 +98,11 @@ class Tree(Store):
             entries = filter(None, map(_ENTRY.fullmatch, self._listed((z, x))))
         except OSError:
             return [(z, x)]
-        return sorted((z, x, int(entry[1]), ENDINGS.index(entry[2])) for entry in entries)
+        return sorted((z, x, foreign.spelled(entry[1]), ENDINGS.index(entry[2])) for entry in entries)
 
     def _numbers(self, folder: Key, pattern: "re.Pattern[str]") -> List[int]:
         """The folders of a folder, in order."""
-        return sorted(map(int, filter(pattern.fullmatch, self._listed(folder))))
+        return sorted(map(foreign.spelled, filter(pattern.fullmatch, self._listed(folder))))
 
     def _listed(self, folder: Key) -> List[str]:
         """What a folder has; nothing where it is none. Raises OSError, and StoreError for the store's own folder."""

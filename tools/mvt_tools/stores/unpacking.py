@@ -7,13 +7,13 @@ from typing import List, Tuple
 from mvt import LIMIT as LIMIT
 from mvt import Refused, judge
 
+from ..bounds import MEMBERS
+
 GZIP = b"\x1f\x8b"
 _WINDOW_OF_EITHER = 47
 # Tiles seldom unpack to more than so many times their bytes, and room that isn't used costs time.
 _USUAL = 8
 
-# A gzip of more members is no tile's: an empty one has 20 bytes, and each costs time.
-MOST_MEMBERS = 4096
 _PIECE = 1 << 16
 _PADDING = re.compile(rb"\0*")
 
@@ -65,13 +65,13 @@ def _unusual(stored: bytes) -> bytes:
     """The same, of what is several members, or broken, or larger than usual."""
     pieces: List[bytes] = []
     end = made = 0
-    for _ in range(MOST_MEMBERS):
+    for _ in range(MEMBERS):
         member, end = _member(stored, end, LIMIT + 1 - made)
         pieces += member
         made += sum(map(len, member))
         if end == len(stored) or made > LIMIT:
             return b"".join(pieces)
-    raise NotUnpacked(f"more than {MOST_MEMBERS:,} members of gzip")
+    raise NotUnpacked(f"more than {MEMBERS:,} members of gzip")
 
 
 def _member(stored: bytes, begin: int, most: int) -> Tuple[List[bytes], int]:

@@ -8,7 +8,7 @@ from .._mvt import Rows, rows
 from .._objects import Position, feature_of
 from .._tiles import Feature, Layer, Point, Tile
 from .._walk import features_of
-from ..mercator import latitude_of, longitude_of
+from ..mercator import latitude_of, longitude_of, place_of
 
 # Positions to a centimetre.
 DECIMALS = 7
@@ -87,10 +87,9 @@ def to_geojson(
 
     Layers are those of version 2, or of them those with the names. What JSON has no number for (NaN, infinities) is None,
     an id from 2^53 on is a text, and a geometry of an unknown kind, without points or in a layer of extent 0 is None.
-    Raises Refused, and NoLayer for a name that no layer has.
+    Raises Refused, NoLayer for a name that no layer has, and ValueError for what is no place.
     """
-    if not (0 <= z <= 30 and isinstance(x, int) and isinstance(y, int)):
-        raise ValueError("a tile's place is a zoom up to 30, a column and a row")
+    place = place_of(z, x, y)
     found = parts_of(tile if isinstance(tile, (Tile, Rows)) else rows(tile), layers)
-    features = [made for part in found for made in objects_of(part, (z, x, y), decimals)]
+    features = [made for part in found for made in objects_of(part, place, decimals)]
     return {"type": "FeatureCollection", "features": features}

@@ -2,18 +2,23 @@
 
 import json
 import math
+from collections.abc import Iterable as AnyIterable
 from collections.abc import Mapping
 from dataclasses import dataclass
-from itertools import groupby
+from itertools import chain, groupby
+from numbers import Number
 from typing import Any, Dict, Iterable, Iterator, List, NamedTuple, Optional, Tuple
 
 from .._errors import OutOfRange
 from .._tiles import Feature, Kind, Layer, Point
 from .._values import Value
-from ..mercator import EDGE, column_of, row_of
+from ..mercator import EDGE, column_of, place_of, row_of
 
-# A position is at most so far from the corner of its tile.
+# A position is at most so far from the corner of its tile, and from the one before it. Two that are nearer to the corner than
+# half of it are near enough to one another.
 _FARTHEST = (1 << 31) - 1
+# What is no list of GeoJSON, though Python has items of it.
+_NO_LISTS = (str, bytes, bytearray, Mapping)
 
 
 class Vanished(NamedTuple):
@@ -47,10 +52,12 @@ def from_geojson(features: Any, z: int, x: int, y: int, extent: int = 4096, *, n
 
     Positions are rounded to the tile's units, and latitudes beyond the map lie at its edge; nothing is cut at the edge of
     the tile. Each geometry of a collection is a feature. A property that is None is left out; a list or an object becomes
-    its JSON. Raises ValueError for what is no GeoJSON, and OutOfRange for a position too far from the tile.
+    its JSON. Raises ValueError for what is no GeoJSON, and OutOfRange for a position too far from the tile, or from the one
+    before it.
     """
-    if not 0 <= z <= 30 or extent < 1:
-        raise ValueError("a tile's place is a zoom up to 30, a column and a row, and its extent is 1 or more")
+    z, x, y = place_of(z, x, y)
+    if not 1 <= extent < 1 << 32:
+        raise ValueError("a tile's extent is a number from 1 up to 2^32")
     making = _Making(z, x, y, extent)
     made = [making.feature(*found) for found in _found(features)]
     return MadeLayer(name, extent, [feature for feature in made if feature is not None], making.vanished())
@@ -59,6 +66,8 @@ def from_geojson(features: Any, z: int, x: int, y: int, extent: int = 4096, *, n
 def _found(given: Any) -> Iterator[Tuple[Any, Mapping[str, Any], Any]]:
     """The geometries, each with the id and the properties of its feature; None where a feature has no geometry."""
     is_one = isinstance(given, Mapping) or hasattr(given, "__geo_interface__")
+    if not is_one and (isinstance(given, _NO_LISTS) or not isinstance(given, AnyIterable)):
+        raise ValueError(f"no GeoJSON: {type(given).__name__} is no object, and no list of objects")
     for each in (given,) if is_one else given:
         yield from _found_in(each)
 
@@ -72,7 +81,7 @@ def _found_in(given: Any) -> Iterator[Tuple[Any, Mapping[str, Any], Any]]:
         if kind == "FeatureCollection":
             waiting += [(None, {}, each) for each in reversed(_listed(item, "features"))]
         elif kind == "Feature":
-            waiting.append((item.get("id"), item.get("properties") or {}, item.get("geometry")))
+            waiting.append((item.get("id"), _properties(item), item.get("geometry")))
         elif kind == "GeometryCollection":
             waiting += [(id, properties, each) for each in reversed(_listed(item, "geometries"))]
         else:
@@ -86,12 +95,20 @@ def _listed(item: Mapping[str, Any], member: str) -> List[Any]:
     return list(found)
 
 
+def _properties(feature: Mapping[str, Any]) -> Mapping[str, Any]:
+    found = feature.get("properties") or {}
+    if not isinstance(found, Mapping):
+        raise ValueError("no GeoJSON: properties that are no object")
+    return found
+
+
 class _Making:
     """Makes features of a tile, and counts what vanishes."""
 
     def __init__(self, z: int, x: int, y: int, extent: int) -> None:
         self._left, self._top, self._side = x * extent, y * extent, extent << z
         self._points = self._parts = self._features = self._ids = 0
+        self._is_far = False
 
     def vanished(self) -> Vanished:
         return Vanished(self._points, self._parts, self._features, self._ids)
@@ -105,34 +122,50 @@ class _Making:
 
     def _id(self, id: Any) -> Optional[int]:
         """An id that is a whole number, or says one in digits."""
-        digits = str(int(id) if isinstance(id, float) and id.is_integer() else id)
-        if digits.isdecimal() and digits.isascii() and len(digits) <= 20 and int(digits) < 1 << 64:
-            return int(digits)
+        number = _whole(id)
+        if number is not None and 0 <= number < 1 << 64:
+            return number
         self._ids += id is not None
         return None
 
     def _geometry(self, geometry: Any) -> Tuple[Kind, List[Any]]:
         kind = geometry.get("type") if isinstance(geometry, Mapping) else None
-        if kind not in _KINDS:
+        if not isinstance(kind, str) or kind not in _KINDS:
             raise ValueError(f"no GeoJSON: {kind!r:.100} is no type of a geometry")
         coordinates = geometry.get("coordinates")
-        parts = coordinates if kind.startswith("Multi") else [coordinates]
         try:
-            if _KINDS[kind] == "points":
-                return "points", self._distinct(map(self._point, filter(None, parts)))
-            make = self._line if _KINDS[kind] == "lines" else self._polygon
-            return _KINDS[kind], list(filter(None, map(make, parts)))
-        except (TypeError, IndexError) as why:
+            drawn = self._drawn(_KINDS[kind], _items(coordinates) if kind.startswith("Multi") else [coordinates])
+        except OutOfRange:
+            raise
+        except OverflowError as why:
+            raise OutOfRange(f"a position of a {kind} is too far from the tile") from why
+        except (TypeError, LookupError) as why:
             raise ValueError(f"no GeoJSON: coordinates of a {kind} that are none") from why
+        return _KINDS[kind], drawn
+
+    def _drawn(self, kind: Kind, parts: Iterable[Any]) -> List[Any]:
+        """What is drawn of points, lines or polygons."""
+        self._is_far = False
+        if kind == "points":
+            drawn: List[Any] = self._distinct(map(self._point, filter(len, map(_items, parts))))
+        else:
+            drawn = list(filter(None, map(self._line if kind == "lines" else self._polygon, parts)))
+        if self._is_far:
+            lines = [drawn] if kind == "points" else drawn if kind == "lines" else chain.from_iterable(drawn)
+            _check_steps(chain.from_iterable(lines))
+        return drawn
 
     def _point(self, position: Any) -> Point:
-        longitude, latitude = float(position[0]), float(position[1])
+        given = _items(position)
+        longitude, latitude = _degrees(given[0]), _degrees(given[1])
         if not (math.isfinite(longitude) and math.isfinite(latitude)):
             raise ValueError("no GeoJSON: a position that is no number")
         x = math.floor(column_of(longitude) * self._side + 0.5) - self._left
         y = math.floor(row_of(min(max(latitude, -EDGE), EDGE)) * self._side + 0.5) - self._top
-        if max(abs(x), abs(y)) > _FARTHEST:
-            raise OutOfRange(f"longitude {longitude:g}, latitude {latitude:g} is too far from the tile")
+        if max(abs(x), abs(y)) > _FARTHEST // 2:
+            self._is_far = True
+            if max(abs(x), abs(y)) > _FARTHEST:
+                raise OutOfRange(f"longitude {longitude:g}, latitude {latitude:g} is too far from the tile")
         return x, y
 
     def _distinct(self, points: Iterable[Point]) -> List[Point]:
@@ -143,7 +176,7 @@ class _Making:
 
     def _moving(self, positions: Iterable[Any]) -> List[Point]:
         """Points of which each is another one than that before."""
-        made = list(map(self._point, positions))
+        made = list(map(self._point, _items(positions)))
         kept = [point for point, _ in groupby(made)]
         self._points += len(made) - len(kept)
         return kept
@@ -157,7 +190,7 @@ class _Making:
 
     def _polygon(self, rings: Any) -> Optional[List[List[Point]]]:
         """Rings: the exterior one has a positive area, and the others have negative ones."""
-        found = [self._ring(positions, number == 0) for number, positions in enumerate(rings)]
+        found = [self._ring(positions, number == 0) for number, positions in enumerate(_items(rings))]
         kept = [ring for ring in found if ring] if found and found[0] else []
         self._parts += len(found) - len(kept)
         return kept or None
@@ -172,10 +205,45 @@ class _Making:
         return points if (area > 0) == is_exterior else [points[0], *points[:0:-1]]
 
 
+def _items(given: Any) -> Any:
+    """What coordinates are a list of. Raises TypeError for a text or an object."""
+    if not isinstance(given, (list, tuple)) and isinstance(given, _NO_LISTS):
+        raise TypeError
+    return given
+
+
+def _degrees(given: Any) -> float:
+    """A number of a position. Raises TypeError for what is none, such as a text of digits, and OverflowError."""
+    if isinstance(given, float):
+        return given
+    if isinstance(given, bool) or not isinstance(given, Number):
+        raise TypeError
+    return float(given)  # type: ignore[arg-type]
+
+
+def _check_steps(points: Iterable[Point]) -> None:
+    """Raises OutOfRange where a point is too far from the one before it, and the first one from the tile's corner."""
+    left = top = 0
+    for x, y in points:
+        if max(abs(x - left), abs(y - top)) > _FARTHEST:
+            raise OutOfRange("two positions that follow each other are too far from one another")
+        left, top = x, y
+
+
 def _area(points: List[Point]) -> int:
     """Twice the area that a ring goes round, positive where it goes clockwise and y goes down."""
     behind = [*points[1:], *points[:1]]
     return sum(x * below - right * y for (x, y), (right, below) in zip(points, behind))
+
+
+def _whole(id: Any) -> Optional[int]:
+    """The whole number that an id is, or says in digits."""
+    if isinstance(id, float) and id.is_integer():
+        return int(id)
+    if isinstance(id, int) and not isinstance(id, bool):
+        return int(id)
+    digits = str(id) if isinstance(id, (str, Number)) else ""
+    return int(digits) if digits.isdecimal() and digits.isascii() and len(digits) <= 20 else None
 
 
 def _attributes(properties: Mapping[str, Any]) -> Dict[str, Value]:
@@ -189,14 +257,21 @@ def _value(given: Any) -> Value:
         return value
     if isinstance(value, int):
         return value if -(1 << 63) <= value < 1 << 64 else _double(value)
-    return _text(value if isinstance(value, str) else json.dumps(value, ensure_ascii=False, default=str))
+    return _text(value if isinstance(value, str) else _json(value))
+
+
+def _json(value: Any) -> str:
+    try:
+        return json.dumps(value, ensure_ascii=False, default=str)
+    except (TypeError, RecursionError) as why:
+        raise ValueError("no GeoJSON: a property that JSON doesn't have") from why
 
 
 def _double(number: int) -> float:
     try:
         return float(number)
     except OverflowError:
-        return math.copysign(math.inf, number)
+        return math.inf if number > 0 else -math.inf
 
 
 def _text(text: str) -> str:

@@ -1,13 +1,13 @@
 """The worst tiles of each cause: those at the lowest zooms, which most people see, and the largest of them."""
 
-import os
-from typing import Any, Dict, List, NamedTuple, Optional
+from typing import Any, Dict, Iterator, List, NamedTuple, Optional
 
 import mvt
 
 from ...stores import Address, Store
 from ...stores.unpacking import LIMIT, NotUnpacked, unpacked
 from ..judging import REFUSED, Row
+from ..links import leads_out
 from ..results import Results
 
 SHOWN, LOOKED_AT = 3, 60
@@ -34,18 +34,8 @@ class Example(NamedTuple):
         return None
 
 
-def leads_out(store: Store, address: Address) -> bool:
-    """Whether a tile of a folder or a list is a link to a file elsewhere, which needn't be for those who read the page."""
-    if store.kind not in ("folder", "list"):
-        return False
-    folder = os.path.realpath(store.path if store.kind == "folder" else os.path.dirname(store.path))
-    file = os.path.join(folder, str(address))
-    is_linked = store.kind == "folder" or os.path.islink(file)
-    return is_linked and os.path.commonpath([os.path.realpath(file), folder]) != folder
-
-
-def examples(results: Results, stores: Dict[str, Store], verdict: str, cause: Optional[int]) -> List[Example]:
-    """The worst of a kind, of different layers where there are such."""
+def examples(results: Results, stores: Dict[str, Store], verdict: str, cause: Optional[int]) -> Iterator[Example]:
+    """The worst of a kind, of different layers where there are such, one at a time: each may be large."""
     query = (
         f"select store, {', '.join(Row._fields)} from tiles where verdict = ? and verdict <> 'accepted' and cause is ?"
         " order by z is null, z, bytes desc limit ?"
@@ -53,7 +43,8 @@ def examples(results: Results, stores: Dict[str, Store], verdict: str, cause: Op
     found = results.database.execute(query, (verdict, cause, LOOKED_AT)).fetchall()
     first = _first_of_layers(found)
     chosen = (first + [row for row in found if row not in first])[:SHOWN]
-    return [_example(stores, row[0], Row(*row[1:])) for row in chosen]
+    for row in chosen:
+        yield _example(stores, row[0], Row(*row[1:]))
 
 
 def _first_of_layers(rows: List[Any]) -> List[Any]:

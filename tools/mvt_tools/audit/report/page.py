@@ -8,6 +8,7 @@ from urllib.parse import quote
 
 from mvt._mvt import cause_text
 
+from ... import bounds
 from ...stores import Store
 from ..judging import ACCEPTED, BROKEN, EMPTY, NOT_UNPACKED, REFUSED, UNREAD, VERDICTS
 from ..results import Results
@@ -147,21 +148,21 @@ def _causes(results: Results, stores: Dict[str, Store], found: Dict[str, Any]) -
     """For each kind of broken tile what it means, and its worst examples."""
     kinds = [(REFUSED, each["cause"], each["cause_name"], each["tiles"]) for each in found["causes"]]
     kinds += [(verdict, None, verdict, found["verdicts"][verdict]) for verdict in (NOT_UNPACKED, UNREAD)]
-    parts = []
+    parts, album = [], pictures.Album()
     for verdict, cause, name, tiles in kinds:
         if tiles:
             means = cause_text(cause) if cause else f"Such a tile {MEANINGS[verdict]}."
             anchor = cause or verdict.replace(" ", "-")
             parts.append(f'<h3 id="cause-{anchor}">{escape(name)}: {counted(tiles, "tile")}</h3>')
             parts.append(f"<p>{escape(means)}</p>")
-            parts += [_example(each, stores) for each in examples(results, stores, verdict, cause)]
+            parts += [_example(each, stores, album) for each in examples(results, stores, verdict, cause)]
     if parts:
         parts.insert(0, "<h2>The worst of each kind</h2>")
         parts.insert(1, '<p class="quiet">Those at the lowest zooms, which most people see, of different layers.</p>')
     return parts
 
 
-def _example(example: Example, stores: Dict[str, Store]) -> str:
+def _example(example: Example, stores: Dict[str, Store], album: pictures.Album) -> str:
     row, fault = example.row, example.fault()
     said = [heading(example.store, row, _within(example), stores, example.link), command(row, stores[example.store])]
     if example.content is None:
@@ -172,9 +173,10 @@ def _example(example: Example, stores: Dict[str, Store]) -> str:
         return f'<article>{"".join(said)}<div class="shown">{shown}</div></article>'
     told = [f"<code>{escape(fault.line)}</code>", counted(row.bytes or 0, "byte"), escape(row.notes)]
     if not fault.explanation.endswith(cause_text(fault.cause)):
-        said.append(f"<p>{escape(fault.explanation)}</p>")
+        # Names of any length stand before the sentence, and their fronts above.
+        said.append(f"<p>{escape(fault.explanation if len(fault.explanation) < bounds.WHY else fault.sentence)}</p>")
     said.append(f'<p class="quiet">{"; ".join(filter(None, told))}</p>')
-    shown = "".join(_pictures(example.content, fault)) + _bytes(example.content, (fault.start or 0, fault.end or 0))
+    shown = "".join(_pictures(album.of_fault(example.content, fault))) + _bytes(example.content, (fault.start or 0, fault.end or 0))
     return f'<article>{"".join(said)}<div class="shown">{shown}</div></article>'
 
 
@@ -189,18 +191,13 @@ def _within(example: Example) -> str:
     return told
 
 
-def _pictures(tile: bytes, fault: Any) -> Iterable[str]:
-    try:
-        whole = pictures.of_tile(tile, fault)
-    except MemoryError:
-        whole = None
-    if whole is None:
-        yield '<p class="quiet">No picture: nothing of the tile can be drawn, or it is too large for this page.</p>'
-    for picture in (whole, pictures.close_up(tile, fault)):
-        if picture is not None:
-            source = quote(picture.svg, safe=" =:;,/()!*.-+?@_~")
-            yield f'<figure><img alt="{escape(picture.told)}" src="data:image/svg+xml,{source}">' \
-                  f"<figcaption>{escape(picture.told)}</figcaption></figure>"
+def _pictures(found: List[pictures.Picture]) -> Iterable[str]:
+    if not found:
+        yield '<p class="quiet">No picture: nothing of the tile can be drawn, or it is too much for this page.</p>'
+    for picture in found:
+        source = quote(picture.svg, safe=" =:;,/()!*.-+?@_~")
+        yield f'<figure><img alt="{escape(picture.told)}" src="data:image/svg+xml,{source}">' \
+              f"<figcaption>{escape(picture.told)}</figcaption></figure>"
 
 
 def _bytes(tile: bytes, place: Optional[Tuple[int, int]]) -> str:

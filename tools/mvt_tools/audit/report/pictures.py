@@ -8,15 +8,11 @@ import mvt
 
 from mvt._around import Around, Path
 
+from ... import bounds
 from .shapes import Point, position
 
-# Larger pictures are left out of the page, and of larger tiles, or tiles with more rows, none is made.
-MOST = 400_000
-MOST_OF_TILE = 2_000_000
-_MOST_ROWS = 1 << 24
-# How long the broken parts of one tile are looked for.
-SECONDS = 2.0
-
+# So many integers of a geometry may stand for the points that are drawn before the fault, and behind it: two for each of them.
+_INTEGERS = 2 * bounds.POINTS
 _RED = "#e3000f"
 # The circle's radius, as a part of the picture's side.
 _RING = 0.03
@@ -54,7 +50,7 @@ def _layer(body: bytes) -> bytes:
 def good_part(tile: bytes) -> Tuple[Optional[bytes], int]:
     """The tile without its broken parts, and how many these are; None where they are too many to be looked for."""
     begun, dropped = time.monotonic(), 0
-    while time.monotonic() - begun < SECONDS:
+    while time.monotonic() - begun < bounds.PICTURE_SECONDS:
         try:
             mvt.judge(tile)
             return tile, dropped
@@ -69,7 +65,7 @@ def good_part(tile: bytes) -> Tuple[Optional[bytes], int]:
 def _drawing(tile: bytes) -> str:
     """The picture of a tile without attributes, since a text that many features have would stand in it for each. Raises
     MemoryError where it has too many rows."""
-    drawn = mvt.read(tile, _MOST_ROWS)
+    drawn = mvt.read(tile, bounds.PICTURE_ROWS)
     for layer in drawn.layers:
         if isinstance(layer, mvt.Layer):
             layer.features = [mvt.Feature(each.id, {}, each.kind, each.geometry) for each in layer.features]
@@ -98,12 +94,26 @@ def _extent(around: Around) -> int:
     return told if 0 < told < 1 << 32 else 4096
 
 
-def _drawn(tile: bytes, fault: mvt.Refused) -> Tuple[List[Path], int, bool]:
-    """The paths of the broken feature, the extent of its layer, and whether they are points."""
+class _Drawn(NamedTuple):
+    """The paths of the broken feature round the fault, the extent of its layer, whether they are points, and the path and the
+    point in it where the fault is, if that is in the geometry."""
+
+    paths: List[Path]
+    extent: int
+    are_points: bool
+    place: Optional[Tuple[Path, int]]
+
+
+def _drawn(tile: bytes, fault: mvt.Refused) -> _Drawn:
     around = mvt.around(tile, fault)
     if around.feature is None:
-        return [], 0, False
-    return around.paths(), _extent(around), around.kind == 1
+        return _Drawn([], 0, False, None)
+    at = fault.at if around.list == "geometry" else 0
+    first = max(0, at - _INTEGERS)
+    paths = around.paths(at + _INTEGERS, first)
+    if first and paths:  # the beginning of the first may be missing
+        paths[0] = paths[0]._replace(is_closed=False)
+    return _Drawn(paths, _extent(around), around.kind == 1, position(paths, at) if around.list == "geometry" else None)
 
 
 def _ring(point: Point, extent: int, side: float) -> str:
@@ -144,8 +154,6 @@ def _view(drawn: List[Path], place: Optional[Point], extent: int) -> _View:
 
 def _good(tile: bytes) -> Tuple[Optional[str], int]:
     """The drawing of what is good of a tile, or None where that is too much, and how many parts aren't."""
-    if len(tile) > MOST_OF_TILE:
-        return None, 0
     good, dropped = good_part(tile)
     try:
         return None if good is None else _drawing(good), dropped
@@ -153,12 +161,29 @@ def _good(tile: bytes) -> Tuple[Optional[str], int]:
         return None, dropped
 
 
+class Album:
+    """The pictures of a page, which have room and time together."""
+
+    def __init__(self) -> None:
+        self._room, self._ends = bounds.PICTURES, time.monotonic() + bounds.PICTURES_SECONDS
+
+    def of_fault(self, tile: bytes, fault: mvt.Refused) -> List[Picture]:
+        """The pictures of a broken tile: the whole, and round the place; none where they would be too much."""
+        if len(tile) > bounds.TILE_OF_PICTURE or self._room < 2 * bounds.PICTURE or time.monotonic() > self._ends:
+            return []
+        try:
+            found = [picture for picture in (of_tile(tile, fault), close_up(tile, fault)) if picture is not None]
+        except MemoryError:
+            return []
+        self._room -= sum(len(picture.svg) for picture in found)
+        return found
+
+
 def of_tile(tile: bytes, fault: mvt.Refused) -> Optional[Picture]:
     """The whole tile: what is good of it, and the broken feature in red, with a circle round the place; with the tile's
     edge where the feature goes beyond it."""
     good, dropped = _good(tile)
-    drawn, extent, _ = _drawn(tile, fault)
-    found = position(drawn, fault.at)
+    drawn, extent, _, found = _drawn(tile, fault)
     place = None if found is None else found[0].points[found[1]]
     view = _view(drawn, place, extent) if drawn else _TILE
     over = "".join(_line(path, _RED, f"{0.5 * view.side:g}%") for path in drawn)
@@ -170,7 +195,7 @@ def of_tile(tile: bytes, fault: mvt.Refused) -> Optional[Picture]:
     if over:
         parts.append(f'<svg width="1" height="1" overflow="visible" viewBox="0 0 {extent} {extent}">{over}</svg>')
     svg = _document("".join(parts), f"{view.left:g} {view.top:g} {view.side:g} {view.side:g}")
-    if len(svg) > MOST or "<path" not in svg:
+    if len(svg) > bounds.PICTURE or "<path" not in svg:
         return None
     is_beyond = any(not 0 <= number <= extent for path in drawn for point in path.points for number in point)
     return Picture(svg, _said(good is None, dropped, bool(over), is_beyond))
@@ -189,8 +214,7 @@ def _said(is_alone: bool, dropped: int, is_drawn: bool, is_beyond: bool) -> str:
 
 def close_up(tile: bytes, fault: mvt.Refused) -> Optional[Picture]:
     """The points round the place of a fault of the geometry."""
-    drawn, _, are_points = _drawn(tile, fault)
-    found = position(drawn, fault.at)
+    drawn, _, are_points, found = _drawn(tile, fault)
     if found is None or are_points:
         return None
     path, number = found
@@ -206,7 +230,7 @@ def close_up(tile: bytes, fault: mvt.Refused) -> Optional[Picture]:
     box = f"{middle[0] - whole / 2:g} {middle[1] - whole / 2:g} {whole:g} {whole:g}"
     lines = "".join(_line(each, "#888", ".4%") for each in drawn if each is not path) + _line(path, _RED, ".6%")
     svg = _document(lines + _arrows(path, near, whole) + _dot(path.points[number], whole), box)
-    if len(svg) > MOST:
+    if len(svg) > bounds.PICTURE:
         return None
     return Picture(svg, f"Round the place: {side:,} units wide. The arrows show the direction.")
 

@@ -5,11 +5,12 @@ from typing import Dict, List
 
 import mvt
 
+from ... import bounds
 from ...stores import Store
 from ...stores.unpacking import unpacked
 from ..findings import Kind, kinds
+from ..links import leads_out
 from ..results import Results
-from .examples import leads_out
 from .pieces import Zooms, command, heading
 from .sentences import counted
 
@@ -49,12 +50,13 @@ def _within(kind: Kind, store: Store) -> str:
     try:
         if leads_out(store, kind.address):
             return ""
-        rows = mvt.rows(unpacked(store.tile(kind.address)))
+        rows = mvt.rows(unpacked(store.tile(kind.address)), bounds.PICTURE_ROWS)
         layer = rows.layers[index]
         feature = None if within is None else rows.features[layer.features.start + within]
+        name = rows.text(layer.name)
     except Exception:  # by a store of another package too
         return ""
-    told = f", layer {index} “{rows.text(layer.name)}”"
+    told = f", layer {index} “{bounds.cut(name)}”"
     if feature is None:
         return told
     return f"{told}, feature {within}" + (f" (id {feature.id})" if feature.has_id else "")
