@@ -170,9 +170,10 @@ mvt_status mvt_rewrite(const uint8_t *bytes, size_t len, mvt_bytes *out, mvt_fau
 /* What mvt_mend changed. */
 typedef enum {
     MVT_CHANGE_TURNED_RING = 1,     /* a ring is told in the other direction, from the same first point */
-    MVT_CHANGE_REPEATED_POINT = 2,  /* points of a line or ring that equal the one before them are left out */
-    MVT_CHANGE_PART_LEFT_OUT = 3,   /* a line or ring is left out: too few points are left, or its exterior ring is left out */
-    MVT_CHANGE_FEATURE_LEFT_OUT = 4 /* a feature is left out: none of its lines or rings is left */
+    MVT_CHANGE_REPEATED_POINT = 2,  /* points that equal the one before them, or at a ring's end its first, are left out */
+    MVT_CHANGE_PART_LEFT_OUT = 3,   /* a line or ring is left out: too few points are left */
+    MVT_CHANGE_FEATURE_LEFT_OUT = 4, /* a feature is left out: none of its lines or rings is left */
+    MVT_CHANGE_MOVED_RING = 5       /* a ring stands elsewhere: behind the exterior ring that holds it */
 } mvt_change;
 
 /* A change. Places count from 0 in the tile as it was. What the kind doesn't speak of is 0. */
@@ -182,6 +183,7 @@ typedef struct {
     uint64_t feature;
     uint64_t part;      /* a line, or a ring through all polygons of the feature */
     uint64_t count;     /* of the points that are left out */
+    uint64_t to;        /* of a ring that moved, its index among those that stay */
 } mvt_change_row;
 
 typedef struct {
@@ -191,8 +193,10 @@ typedef struct {
 
 /* The canonical bytes of a tile in which the two rules are mended that producers break most: MVT_CAUSE_ZERO_SEGMENT and
  * MVT_CAUSE_FIRST_RING. With them comes what was changed: of each feature its lines or rings in order, or that it is left out.
- * A tile that keeps every rule is rewritten, and has no changes; one that breaks another rule too is refused with the fault
- * that mvt_judge tells. Free the result with mvt_mended_free. MVT_OK, MVT_REFUSED, MVT_NO_MEMORY, MVT_TOO_LARGE. */
+ * Where a polygon's first ring has negative area, its rings are told by even-odd: what an odd number of the others hold is a
+ * hole, but for a unit. Filled by even-odd the tile looks the same before and after.
+ * A tile that keeps every rule is rewritten, and has no changes; one that breaks another rule too, or whose rings cross, is
+ * refused with the fault that mvt_judge tells. Free the result with mvt_mended_free. MVT_OK, MVT_REFUSED, MVT_NO_MEMORY, MVT_TOO_LARGE. */
 mvt_status mvt_mend(const uint8_t *bytes, size_t len, mvt_mended *out, mvt_fault *fault);
 
 /* The canonical bytes of the named layers of version 2, in the order of the tile. A repeated name counts once; without

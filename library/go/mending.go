@@ -18,8 +18,10 @@ type Change struct {
 	Layer, Feature uint64
 	// Part is a line, or a ring through all polygons of the feature.
 	Part uint64
-	// Count is how many repeated points are left out.
+	// Count is how many points are left out: repeated ones, or those of a part or feature.
 	Count uint64
+	// To is where a ring that moved stands among those that stay.
+	To uint64
 }
 
 // String is the change as `mvt mend` prints it.
@@ -27,9 +29,11 @@ func (c Change) String() string {
 	told := fmt.Sprintf("layer %d feature %d: %v", c.Layer, c.Feature, c.Kind)
 	switch c.Kind {
 	case ChangeFeatureLeftOut:
-		return told
-	case ChangeRepeatedPoint:
+		return fmt.Sprintf("%s count %d", told, c.Count)
+	case ChangeRepeatedPoint, ChangePartLeftOut:
 		return fmt.Sprintf("%s %d count %d", told, c.Part, c.Count)
+	case ChangeMovedRing:
+		return fmt.Sprintf("%s %d to %d", told, c.Part, c.To)
 	}
 	return fmt.Sprintf("%s %d", told, c.Part)
 }
@@ -48,7 +52,7 @@ func Mend(tile []byte) ([]byte, []Change, error) {
 	var changes []Change
 	for _, row := range rowsOf(out.changes, out.change_count) {
 		changes = append(changes, Change{ChangeKind(row.kind), uint64(row.layer), uint64(row.feature), uint64(row.part),
-			uint64(row.count)})
+			uint64(row.count), uint64(row.to)})
 	}
 	return append(make([]byte, 0, out.bytes.len), view(out.bytes.data, out.bytes.len)...), changes, nil
 }

@@ -59,8 +59,9 @@ func TestMend(t *testing.T) {
 	same(t, "a mended tile", must(t, err, mended), wanted)
 	same(t, "changes", changes, []mvt.Change{{Kind: mvt.ChangeTurnedRing}})
 	same(t, "its line", changes[0].String(), "layer 0 feature 0: TurnedRing 0")
-	same(t, "lines", fmt.Sprint(mvt.Change{Kind: mvt.ChangeRepeatedPoint, Part: 1, Count: 2}, mvt.Change{Kind: mvt.ChangeFeatureLeftOut}),
-		"layer 0 feature 0: RepeatedPoint 1 count 2 layer 0 feature 0: FeatureLeftOut")
+	same(t, "lines", fmt.Sprint(mvt.Change{Kind: mvt.ChangeRepeatedPoint, Part: 1, Count: 2}, mvt.Change{Kind: mvt.ChangeFeatureLeftOut, Count: 2},
+		mvt.Change{Kind: mvt.ChangeMovedRing, Part: 1, To: 2}), "layer 0 feature 0: RepeatedPoint 1 count 2 "+
+		"layer 0 feature 0: FeatureLeftOut count 2 layer 0 feature 0: MovedRing 1 to 2")
 	mended, changes, err = mvt.Mend(wanted)
 	same(t, "nothing to mend", string(must(t, err, mended)), string(wanted))
 	same(t, "no changes", len(changes), 0)

@@ -82,6 +82,7 @@ const (
 	ChangeRepeatedPoint  ChangeKind = 2
 	ChangePartLeftOut    ChangeKind = 3
 	ChangeFeatureLeftOut ChangeKind = 4
+	ChangeMovedRing      ChangeKind = 5
 )
 
 var changeNames = map[ChangeKind]string{
@@ -89,6 +90,7 @@ var changeNames = map[ChangeKind]string{
 	ChangeRepeatedPoint:  "RepeatedPoint",
 	ChangePartLeftOut:    "PartLeftOut",
 	ChangeFeatureLeftOut: "FeatureLeftOut",
+	ChangeMovedRing:      "MovedRing",
 }
 
 // The roles.

@@ -55,6 +55,7 @@ static_assert(MVT_CHANGE_TURNED_RING == 1, "MVT_CHANGE_TURNED_RING");
 static_assert(MVT_CHANGE_REPEATED_POINT == 2, "MVT_CHANGE_REPEATED_POINT");
 static_assert(MVT_CHANGE_PART_LEFT_OUT == 3, "MVT_CHANGE_PART_LEFT_OUT");
 static_assert(MVT_CHANGE_FEATURE_LEFT_OUT == 4, "MVT_CHANGE_FEATURE_LEFT_OUT");
+static_assert(MVT_CHANGE_MOVED_RING == 5, "MVT_CHANGE_MOVED_RING");
 static_assert(MVT_NOTE_NO_LAYERS == 1, "MVT_NOTE_NO_LAYERS");
 static_assert(MVT_NOTE_FOREIGN == 2, "MVT_NOTE_FOREIGN");
 static_assert(MVT_NOTE_NO_FEATURES == 3, "MVT_NOTE_NO_FEATURES");
@@ -181,12 +182,13 @@ static_assert(offsetof(mvt_tile, integer_count) == 120, "mvt_tile: integer_count
 static_assert(offsetof(mvt_tile, texts) == 128, "mvt_tile: texts");
 static_assert(offsetof(mvt_tile, text_len) == 136, "mvt_tile: text_len");
 
-static_assert(sizeof(mvt_change_row) == 40, "mvt_change_row");
+static_assert(sizeof(mvt_change_row) == 48, "mvt_change_row");
 static_assert(offsetof(mvt_change_row, kind) == 0, "mvt_change_row: kind");
 static_assert(offsetof(mvt_change_row, layer) == 8, "mvt_change_row: layer");
 static_assert(offsetof(mvt_change_row, feature) == 16, "mvt_change_row: feature");
 static_assert(offsetof(mvt_change_row, part) == 24, "mvt_change_row: part");
 static_assert(offsetof(mvt_change_row, count) == 32, "mvt_change_row: count");
+static_assert(offsetof(mvt_change_row, to) == 40, "mvt_change_row: to");
 
 static_assert(sizeof(mvt_mended) == 32, "mvt_mended");
 static_assert(offsetof(mvt_mended, bytes) == 0, "mvt_mended: bytes");

@@ -4,15 +4,19 @@
 #include "tests.h"
 
 #include <inttypes.h>
+#include <stdbool.h>
 
 /* Adds the line of a change, of 120 bytes at most, behind others. */
 static size_t add_line(char *to, const mvt_change_row *row) {
-    static const char *const names[] = {"", "TurnedRing", "RepeatedPoint", "PartLeftOut", "FeatureLeftOut"};
-    require(row->kind >= MVT_CHANGE_TURNED_RING && row->kind <= MVT_CHANGE_FEATURE_LEFT_OUT, "the kind of a change");
-    require((row->count != 0) == (row->kind == MVT_CHANGE_REPEATED_POINT), "the count of a change");
+    static const char *const names[] = {"", "TurnedRing", "RepeatedPoint", "PartLeftOut", "FeatureLeftOut", "MovedRing"};
+    bool counts = row->kind != MVT_CHANGE_TURNED_RING && row->kind != MVT_CHANGE_MOVED_RING;
+    require(row->kind >= MVT_CHANGE_TURNED_RING && row->kind <= MVT_CHANGE_MOVED_RING, "the kind of a change");
+    require((row->count != 0) == counts, "the count of a change");
+    require(row->to == 0 || row->kind == MVT_CHANGE_MOVED_RING, "where a ring moved");
     char *end = to + sprintf(to, "layer %" PRIu64 " feature %" PRIu64 ": %s", row->layer, row->feature, names[row->kind]);
     if (row->kind != MVT_CHANGE_FEATURE_LEFT_OUT) end += sprintf(end, " %" PRIu64, row->part);
-    if (row->kind == MVT_CHANGE_REPEATED_POINT) end += sprintf(end, " count %" PRIu64, row->count);
+    if (counts) end += sprintf(end, " count %" PRIu64, row->count);
+    if (row->kind == MVT_CHANGE_MOVED_RING) end += sprintf(end, " to %" PRIu64, row->to);
     *end = '\n';
     return (size_t)(end + 1 - to);
 }

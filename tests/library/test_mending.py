@@ -37,7 +37,7 @@ class Mending(unittest.TestCase):
     def test_a_feature_is_left_out(self):
         told = mvt.mend(bytearray(broken("20-ZeroSegment")))
         self.assertEqual(told.bytes, mvt.Builder().layer("a").finish())
-        self.assertEqual(list(map(str, told.changes)), ["layer 0 feature 0: FeatureLeftOut"])
+        self.assertEqual(list(map(str, told.changes)), ["layer 0 feature 0: FeatureLeftOut count 2"])
 
     def test_another_rule_is_broken_too(self):
         """A ZeroSegment, and behind it a layer without a name: the fault is the first one."""
@@ -46,8 +46,9 @@ class Mending(unittest.TestCase):
         self.assertEqual((told.exception.name, told.exception.layer), ("ZeroSegment", 0))
 
     def test_the_text_of_changes(self):
-        self.assertEqual(str(change_of((3, 1, 2, 4, 0))), "layer 1 feature 2: PartLeftOut 4")
-        self.assertEqual(change_of((4, 1, 2, 0, 0)), mvt.Change("FeatureLeftOut", 1, 2))
+        self.assertEqual(str(change_of((3, 1, 2, 4, 5, 0))), "layer 1 feature 2: PartLeftOut 4 count 5")
+        self.assertEqual(str(change_of((5, 1, 2, 4, 0, 3))), "layer 1 feature 2: MovedRing 4 to 3")
+        self.assertEqual(change_of((4, 1, 2, 0, 6, 0)), mvt.Change("FeatureLeftOut", 1, 2, count=6))
 
     def test_what_is_no_tile(self):
         for given in ("tile.mvt", None, 7):

@@ -235,6 +235,10 @@ EXTRACTED = [
 UNREAD = [["frob"], ["extract"], ["extract", "-x"], ["show", "a"], ["--help"], ["help"]]
 
 
+# What `mend` says behind the line of a fault.
+UNMENDED = "mvt: not mended: another rule is broken\n"
+
+
 def runs():
     """Words, an input, and what is answered: the status, the output and the error stream."""
     for tile, report, text, canonical in ACCEPTED:
@@ -247,7 +251,7 @@ def runs():
             yield words, tile, (1, "", line + "\n")
         # These two rules are mended.
         if not line.endswith(("ZeroSegment", "FirstRing")):
-            yield ["mend"], tile, (1, "", line + "\n")
+            yield ["mend"], tile, (1, "", line + "\n" + UNMENDED)
     for tile, lines, line in FIELDS:
         yield ["fields"], tile, (1 if line else 0, lines, line)
     yield ["draw"], ONE_POINT, (0, DRAWN, "")

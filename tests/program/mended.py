@@ -1,100 +1,71 @@
 """Geometries mended, worked by these tests from the rules alone (Mapbox Vector Tile Specification 2.1, 4.3.3.2 and 4.3.4.4).
 
-Points that equal the one before them go, and with them lines of one point, rings of two, the interior rings of an exterior ring
-that went, and features without lines or rings. Where the first ring has negative area, rings are told by nesting: one that lies in
-the last exterior ring is interior, any other exterior."""
+Points that equal the one before them go, and with them lines of one point, rings of two, and features without lines or rings.
+Where the first ring has negative area, rings are told by even-odd (nested.py)."""
 
 import itertools
 
+import nested
+from nested import area
 from sizes import integers_of, strokes
 from wire import field, packed
 
 LINES, POLYGONS = 2, 3
 
 
-def area(ring):
-    return sum(a[0] * b[1] - b[0] * a[1] for a, b in zip(ring, ring[1:] + ring[:1]))
-
-
 def without_repeats(points):
     return [point for point, _ in itertools.groupby(points)]
 
 
-def turned(ring):
-    first, *others = ring
-    return [first, *itertools.dropwhile(lambda point: point == first, reversed(others))]
+def opened(ring):
+    """Without last points that equal the first."""
+    while len(ring) > 1 and ring[-1] == ring[0]:
+        ring = ring[:-1]
+    return ring
 
 
-def edges(ring):
-    return zip(ring, ring[1:] + ring[:1])
+def kept(kind, parts):
+    """The parts that stay, each with its index, in the order in which they stand then."""
+    least = 2 if kind == LINES else 3
+    apart = [(index, without_repeats(part)) for index, part in enumerate(parts)]
+    stay = [(index, part) for index, part in apart if len(part) >= least]
+    if kind == LINES or not stay or area(stay[0][1]) >= 0:
+        return stay
+    told = nested.told([opened(part) for _, part in apart])
+    return [(index, ring) for index, ring in told if len(ring) >= 3]
 
 
-def is_in(ring, point):
-    """Whether a point lies in a ring or on its edge."""
-    x, y = point
-    crossings = 0
-    for (ax, ay), (bx, by) in edges(ring):
-        side = (bx - ax) * (y - ay) - (by - ay) * (x - ax)
-        if side == 0 and min(ax, bx) <= x <= max(ax, bx) and min(ay, by) <= y <= max(ay, by):
-            return True
-        if (ay > y) != (by > y) and (side > 0) == (by > ay):
-            crossings += 1
-    return crossings % 2 == 1
+def sign(ring):
+    return (area(ring) > 0) - (area(ring) < 0)
 
 
-def lies_in(outer, ring):
-    spans = ((min(axis), max(axis)) for axis in zip(*outer))
-    boxed = all(low <= min(axis) and max(axis) <= high for (low, high), axis in zip(spans, zip(*ring)))
-    return boxed and all(is_in(outer, point) for point in ring)
-
-
-def kept_rings(rings):
-    """The indices of rings that stay."""
-    gone, kept = False, []
-    for index, ring in enumerate(rings):
-        exterior = index == 0 or area(ring) > 0
-        if gone and not exterior:
+def changes_of(parts, stay):
+    places = {index: (place, part) for place, (index, part) in enumerate(stay)}
+    before, changes = 0, []
+    for index, part in enumerate(parts):
+        if index not in places:
+            changes.append(f"PartLeftOut {index} count {len(part)}")
             continue
-        gone = exterior and len(ring) < 3
-        if len(ring) >= 3:
-            kept.append(index)
-    return kept
-
-
-def told(rings):
-    """Rings told by nesting, if the first has negative area."""
-    if not rings or area(rings[0]) >= 0:
-        return rings
-    outer, made = rings[0], [turned(rings[0])]
-    for ring in rings[1:]:
-        interior = area(ring) != 0 and lies_in(outer, ring)
-        if area(ring) != 0 and not interior:
-            outer = ring
-        wrong = area(ring) > 0 if interior else area(ring) < 0
-        made.append(turned(ring) if wrong else ring)
-    return made
+        place, made = places[index]
+        if len(part) > len(made):
+            changes.append(f"RepeatedPoint {index} count {len(part) - len(made)}")
+        if sign(part) * sign(made) < 0:
+            changes.append(f"TurnedRing {index}")
+        if place != before:
+            changes.append(f"MovedRing {index} to {place}")
+        before += 1
+    return changes
 
 
 def mended(kind, parts):
-    """The parts that stand in place of others, and what is changed: a feature that draws comes as it is."""
-    apart = [without_repeats(part) for part in parts]
-    if apart == parts and (kind == LINES or area(parts[0]) > 0):
+    """The parts that stand in place of others, and what is changed: a feature that draws comes as it is. Raises
+    nested.Crossing where two rings cross."""
+    if parts == [without_repeats(part) for part in parts] and (kind == LINES or area(parts[0]) > 0):
         return parts, []
-    kept = [i for i, line in enumerate(apart) if len(line) > 1] if kind == LINES else kept_rings(apart)
-    made = [apart[i] for i in kept]
-    made = made if kind == LINES else told(made)
-    if not made:
-        return [], ["FeatureLeftOut"]
-    changes, became = [], dict(zip(kept, made))
-    for index, part in enumerate(parts):
-        if index not in became:
-            changes.append(f"PartLeftOut {index}")
-            continue
-        if len(part) > len(apart[index]):
-            changes.append(f"RepeatedPoint {index} count {len(part) - len(apart[index])}")
-        if became[index] != apart[index]:
-            changes.append(f"TurnedRing {index}")
-    return made, changes
+    stay = kept(kind, parts)
+    if not stay:
+        return [], [f"FeatureLeftOut count {sum(map(len, parts))}"]
+    return [part for _, part in stay], changes_of(parts, stay)
 
 
 def shape(kind, parts):

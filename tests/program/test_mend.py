@@ -4,6 +4,7 @@ tiles that are made to take long."""
 import json
 import random
 
+import nested
 import pytest
 from mended import LINES, POLYGONS, area, canonical, feature_bytes, layer_bytes, mended, shape
 from test_tiles import BROKEN, broken, beside
@@ -21,13 +22,18 @@ def turned(ring):
 ROWS = {
     "kept": (POLYGONS, [SQUARE, HOLE], [SQUARE, HOLE], []),
     "line": (LINES, [[[0, 0], [0, 0], [4, 4]]], [[[0, 0], [4, 4]]], ["RepeatedPoint 0 count 1"]),
-    "short line": (LINES, [[[1, 1], [1, 1]], [[2, 2], [3, 3]]], [[[2, 2], [3, 3]]], ["PartLeftOut 0"]),
-    "no line": (LINES, [[[1, 1], [1, 1]]], [], ["FeatureLeftOut"]),
+    "short line": (LINES, [[[1, 1], [1, 1]], [[2, 2], [3, 3]]], [[[2, 2], [3, 3]]], ["PartLeftOut 0 count 2"]),
+    "no line": (LINES, [[[1, 1], [1, 1]]], [], ["FeatureLeftOut count 2"]),
     "ring": (POLYGONS, [turned(SQUARE)], [SQUARE], ["TurnedRing 0"]),
     "hole": (POLYGONS, [turned(SQUARE), turned(HOLE)], [SQUARE, HOLE], ["TurnedRing 0", "TurnedRing 1"]),
     "island": (POLYGONS, [turned(SQUARE), HOLE, turned(ISLAND)], [SQUARE, HOLE, ISLAND], ["TurnedRing 0", "TurnedRing 2"]),
-    "holes go": (POLYGONS, [[[0, 0], [9, 9], [9, 9]], HOLE, ISLAND], [ISLAND], ["PartLeftOut 0", "PartLeftOut 1"]),
-    "closed": (POLYGONS, [[*turned(SQUARE), [0, 0]]], [SQUARE], ["TurnedRing 0"]),
+    "behind a short one": (POLYGONS, [[[0, 0], [9, 9], [9, 9]], HOLE, ISLAND], [turned(HOLE), ISLAND],
+        ["PartLeftOut 0 count 3", "TurnedRing 1"]),
+    "closed": (POLYGONS, [[*turned(SQUARE), [0, 0]]], [SQUARE], ["RepeatedPoint 0 count 1", "TurnedRing 0"]),
+    "island in a lake": (POLYGONS, [turned(SQUARE), turned(HOLE), [[4, 4], [4, 6], [6, 6], [6, 4]]],
+        [SQUARE, HOLE, [[4, 4], [6, 4], [6, 6], [4, 6]]], ["TurnedRing 0", "TurnedRing 1", "TurnedRing 2"]),
+    "lake before its land": (POLYGONS, [turned(ISLAND), HOLE, turned(SQUARE)], [ISLAND, SQUARE, HOLE],
+        ["TurnedRing 0", "MovedRing 1 to 2", "TurnedRing 2", "MovedRing 2 to 1"]),
     "repeated and turned": (POLYGONS, [[[0, 0], *turned(SQUARE)]], [SQUARE], ["RepeatedPoint 0 count 1", "TurnedRing 0"]),
 }  # fmt: skip
 
@@ -53,8 +59,8 @@ def test_places(run):
     tile = field(3, foreign) + field(3, layer_bytes([gone, row])) + field(3, layer_bytes([row, gone], b"b"))
     whole = feature_bytes(POLYGONS, [SQUARE], 7)
     wanted = field(3, foreign) + field(3, layer_bytes([whole])) + field(3, layer_bytes([whole], b"b"))
-    told = lines(0, ["FeatureLeftOut"], 1) + lines(1, ["TurnedRing 0"], 1)
-    told += lines(0, ["TurnedRing 0"], 2) + lines(1, ["FeatureLeftOut"], 2)
+    told = lines(0, ["FeatureLeftOut count 2"], 1) + lines(1, ["TurnedRing 0"], 1)
+    told += lines(0, ["TurnedRing 0"], 2) + lines(1, ["FeatureLeftOut count 2"], 2)
     assert run("mend", tile=tile) == (0, wanted, told)
 
 
@@ -79,14 +85,25 @@ def test_broken(run, name, line):
         assert told.startswith("mended layer 0 feature 0: ")
         assert run("check", tile=output).status == 0
     else:
-        assert (status, output, told) == (1, b"", f"{line}\n")
+        assert (status, output) == (1, b"")
+        assert told == f"{line}\nmvt: not mended: another rule is broken\n"
 
 
 @pytest.mark.parametrize("name", [row[0] for row in BROKEN if row[0][:2] not in ("20", "22", "25")])
 def test_broken_twice(run, name):
     """A tile that can be mended but for another rule is refused with its first fault."""
     row = field(3, layer_bytes([feature_bytes(POLYGONS, [turned(SQUARE)])], b"first"))
-    assert run("mend", tile=row + broken(name)) == (1, b"", "layer 0 feature 0 at 10: 22 FirstRing\n")
+    told = "layer 0 feature 0 at 10: 22 FirstRing\nmvt: not mended: another rule is broken\n"
+    assert run("mend", tile=row + broken(name)) == (1, b"", told)
+
+
+def test_crossing(run):
+    """Two rings that cross are told by their indices, the larger one first, after the fault."""
+    whole = feature_bytes(POLYGONS, [SQUARE])
+    cross = feature_bytes(POLYGONS, [[[0, 40], [0, 60], [100, 60], [100, 40]], [[40, 0], [40, 90], [60, 90], [60, 0]]])
+    status, output, told = run("mend", tile=field(3, layer_bytes([whole, cross])))
+    assert (status, output) == (1, b"")
+    assert told == "layer 0 feature 1 at 10: 22 FirstRing\nmvt: not mended: layer 0 feature 1: rings 0 and 1 cross\n"
 
 
 def random_part(chance, span, points):
@@ -103,7 +120,10 @@ def random_feature(chance):
         kind, span = chance.choice([LINES, POLYGONS]), chance.choice([1, 2, 4, 9, 1000])
         least = 2 if kind == LINES else 3
         parts = [random_part(chance, span, chance.randint(least, 7)) for _ in range(chance.randint(1, 6))]
-        made, changes = mended(kind, parts)
+        try:
+            made, changes = mended(kind, parts)
+        except nested.Crossing:
+            continue
         if changes and (kind == LINES or not made or area(made[0]) > 0):
             return kind, parts, made, changes
 
@@ -128,7 +148,7 @@ def test_equal_points(run):
     """A ring of 5,000,000 points at one place."""
     ring = varint(9) + bytes(2) + varint(4_999_999 << 3 | 2) + bytes(2 * 4_999_999) + b"\x0f"
     tile = field(3, layer_bytes([field(3, POLYGONS) + field(4, ring)]))
-    assert run("mend", tile=tile) == (0, field(3, canonical([])), lines(0, ["FeatureLeftOut"]))
+    assert run("mend", tile=tile) == (0, field(3, canonical([])), lines(0, ["FeatureLeftOut count 5000000"]))
 
 
 def test_features_left_out(run):
@@ -136,15 +156,15 @@ def test_features_left_out(run):
     gone = feature_bytes(LINES, [[[1, 1], [1, 1]]])
     status, output, told = run("mend", tile=field(3, layer_bytes([gone] * 1_000_000)))
     assert (status, output) == (0, field(3, canonical([])))
-    assert told.count("\n") == 1_000_000 and told.endswith("feature 999999: FeatureLeftOut\n")
+    assert told.count("\n") == 1_000_000 and told.endswith("feature 999999: FeatureLeftOut count 2\n")
 
 
 def test_many_rings(run):
-    """100,000 rings in one of 100,000 points take too many steps of nesting."""
+    """100,000 rings in one of 100,000 points take too many steps."""
     comb = [[x, 5000 * (x % 2)] for x in range(99_998)] + [[99_998, 100_000], [0, 100_000]]
     outer = comb if area(comb) < 0 else [comb[0], *reversed(comb[1:])]
     inner = [[50_000, 50_000], [50_000, 50_001], [50_001, 50_001]]
     tile = field(3, layer_bytes([feature_bytes(POLYGONS, [outer] + [inner] * 100_000)]))
     status, output, told = run("mend", tile=tile)
-    assert (status, output) == (1, b"") and told.endswith(": 22 FirstRing\n")
-    assert run("check", tile=tile).errors == told
+    assert (status, output) == (1, b"")
+    assert told == run("check", tile=tile).errors + "mvt: not mended: rings take more than 1073741824 steps\n"

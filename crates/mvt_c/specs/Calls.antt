@@ -3,6 +3,8 @@ use Rattle.std.specs.Prelude.{◌≡◌, ℕ, ◌<◌, List, length, Option, Non
 use Rattle.mvt_base.specs.declared.TheConstants.{LIMIT}
 use Rattle.mvt_tile.specs.declared.fault.DecodeError.{DecodeError}
 use Rattle.mvt_tile.specs.declared.fault.DecodeError.TheVariants as decoding
+use Rattle.mvt_mend.specs.declared.tile.MendError.{MendError}
+use Rattle.mvt_mend.specs.declared.tile.MendError.TheVariants as mending
 use Rattle.mvt_tile.specs.declared.fault.Fault.{Fault as TileFault}
 use Rattle.mvt_tile_value.specs.declared.tile.Tile.{Tile}
 use Rattle.mvt_tile_value.specs.CanonicalTiles.{canonical}
@@ -44,6 +46,11 @@ abbrev pub of_decode : DecodeError → Refusal
 of_decode decoding.Memory = Memory
 of_decode (decoding.Fault fault) = Refused fault
 of_decode (decoding.Read kind) = Memory
+
+-- why a tile isn't mended is no matter of the status
+abbrev pub of_mend : MendError → Refusal
+of_mend mending.Memory = Memory
+of_mend (mending.Refused fault cause) = Refused fault
 
 -- the status of a decoder: 0, or that of the error that it keeps
 abbrev pub status_of_failure : Option DecodeError → ℕ

@@ -2,7 +2,7 @@
 use Rattle.std.specs.Prelude.{◌≡◌, ℕ, ◌==◌, List, map, Some, IsSome, ⊤, if◌then◌else◌}
 use Rattle.mvt_base.specs.declared.TheConstants.{LIMIT}
 use Rattle.mvt_mend.specs.declared.change.Change.{Change}
-use Rattle.mvt_mend.specs.declared.change.Change.TheVariants.{TurnedRing, RepeatedPoint, PartLeftOut, FeatureLeftOut}
+use Rattle.mvt_mend.specs.declared.change.Change.TheVariants.{TurnedRing, RepeatedPoint, PartLeftOut, FeatureLeftOut, MovedRing}
 use Rattle.mvt_mend.specs.Tiles.{changes_in, mended}
 use Rattle.mvt_rows.specs.Reading.{IsRewritten, IsTooLarge}
 use Rattle.mvt_tile.specs.TileRules.{fault_within}
@@ -19,21 +19,24 @@ change_at kind layer feature part = record {
   feature = feature;
   part = part;
   count = 0;
+  to = 0;
 }
 
 abbrev pub row_of_change : Change → ChangeRow
 row_of_change (TurnedRing layer feature ring) = change_at 1 layer feature ring
 row_of_change (RepeatedPoint layer feature part count) = record (change_at 2 layer feature part) { count = count }
-row_of_change (PartLeftOut layer feature part) = change_at 3 layer feature part
-row_of_change (FeatureLeftOut layer feature) = change_at 4 layer feature 0
+row_of_change (PartLeftOut layer feature part count) = record (change_at 3 layer feature part) { count = count }
+row_of_change (FeatureLeftOut layer feature count) = record (change_at 4 layer feature 0) { count = count }
+row_of_change (MovedRing layer feature ring to) = record (change_at 5 layer feature ring) { to = to }
 
 -- the change that a row tells
 abbrev pub change_of_row : ChangeRow → Change
 change_of_row row =
     if row.kind == 1 then TurnedRing row.layer row.feature row.part
     else if row.kind == 2 then RepeatedPoint row.layer row.feature row.part row.count
-    else if row.kind == 3 then PartLeftOut row.layer row.feature row.part
-    else FeatureLeftOut row.layer row.feature
+    else if row.kind == 3 then PartLeftOut row.layer row.feature row.part row.count
+    else if row.kind == 4 then FeatureLeftOut row.layer row.feature row.count
+    else MovedRing row.layer row.feature row.part row.to
 
 -- the canonical bytes of the bytes mended, and the rows of what is changed
 pub record IsMendedTo (input : List ℕ) (made : Mended) : Type 0 where

@@ -22,6 +22,7 @@ pub struct ChangeRow {
     pub feature: u64,
     pub part: u64,
     pub count: u64,
+    pub to: u64,
 }
 
 /// The canonical bytes of a tile that is mended, and what is changed, which last until C frees
@@ -89,12 +90,28 @@ fn change_row(change: Change) -> ChangeRow
 {
     match change {
         Change::TurnedRing(layer, feature, ring) => change_at(1, layer, feature, ring),
-        Change::RepeatedPoint(layer, feature, part, count) => ChangeRow {
-            count: count as u64,
-            ..change_at(2, layer, feature, part)
+        Change::RepeatedPoint(layer, feature, part, count) => {
+            counted(change_at(2, layer, feature, part), count)
+        }
+        Change::PartLeftOut(layer, feature, part, count) => {
+            counted(change_at(3, layer, feature, part), count)
+        }
+        Change::FeatureLeftOut(layer, feature, count) => {
+            counted(change_at(4, layer, feature, 0), count)
+        }
+        Change::MovedRing(layer, feature, ring, to) => ChangeRow {
+            to: to as u64,
+            ..change_at(5, layer, feature, ring)
         },
-        Change::PartLeftOut(layer, feature, part) => change_at(3, layer, feature, part),
-        Change::FeatureLeftOut(layer, feature) => change_at(4, layer, feature, 0),
+    }
+}
+
+fn counted(row: ChangeRow, count: usize) -> ChangeRow
+    ensures { result ≡ record row { count = count } }
+{
+    ChangeRow {
+        count: count as u64,
+        ..row
     }
 }
 
@@ -107,5 +124,6 @@ fn change_at(kind: u32, layer: usize, feature: usize, part: usize) -> ChangeRow
         feature: feature as u64,
         part: part as u64,
         count: 0,
+        to: 0,
     }
 }

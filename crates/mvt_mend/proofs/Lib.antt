@@ -8,7 +8,7 @@ mod SpellingLemmas
 mod MendedLemmas
 mod ReadLemmas
 mod SmallLemmas
-mod TurningLemmas
 pub mod FieldsLemmas
 mod MendedTileLemmas
+mod CauseLemmas
 mod StayLemmas

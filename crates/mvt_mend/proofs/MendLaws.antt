@@ -1,9 +1,8 @@
 -- What the public laws state, for the proofs of the crates above: a lemma for each clause.
 pub use Rattle.mvt_mend.proofs.OnceLemmas.{drawn_stays, mended_is_faultless, mended_once}
-pub use Rattle.mvt_mend.proofs.OriginLemmas.{lines_come_from_lines, rings_come_from_rings}
+pub use Rattle.mvt_mend.proofs.OriginLemmas.{lines_come_from_lines}
 pub use Rattle.mvt_mend.proofs.MendedLemmas.{mended_comes_from_spelled}
 pub use Rattle.mvt_mend.proofs.ReadLemmas.{spelled_is_read}
 pub use Rattle.mvt_mend.proofs.SmallLemmas.{mended_draws}
-pub use Rattle.mvt_mend.proofs.TurningLemmas.{turned_area, exterior_area as directed_area_exterior, interior_area as directed_area_interior}
-pub use Rattle.mvt_mend.proofs.MendedTileLemmas.{long_stays}
+pub use Rattle.mvt_mend.proofs.MendedTileLemmas.{long_cause, long_stays}
 pub use Rattle.mvt_mend.proofs.StayLemmas.{tile_stays_bytes, tile_stays_changes}

@@ -12,7 +12,7 @@ use Rattle.mvt_geometry.specs.Table.{is_outside}
 use Rattle.mvt_geometry.specs.Drawing.{Draws, path_from, stroke, strokes}
 use Rattle.mvt_geometry.proofs.GeometryLaws.{faultless_draws}
 use Rattle.mvt_mend.specs.Drawing.{closing, is_near, are_near, can_draw, can_draw_all}
-use Rattle.mvt_mend.specs.Geometry.{mended_geometry}
+use Rattle.mvt_mend.specs.Geometry.{mended_geometry, points_of}
 use Rattle.mvt_mend.specs.Spelling.{has_rings}
 use Rattle.mvt_mend.proofs.SpellingLemmas.{and_true}
 use Rattle.mvt_mend.proofs.ReadLemmas.{not_true}
@@ -90,5 +90,5 @@ unfolding AreSmall
 mended_draws kind ints n new h =
     let is = mended_comes_from_spelled kind ints (n ∷ new) h in
     let small : AreSmall (n ∷ new) =
-    subst (λ xs. AreSmall xs) (sym is.draws) (parts_small (has_rings kind) origin is.mended is.drawable) in
+    subst (λ xs. AreSmall xs) (sym is.draws) (parts_small (has_rings kind) origin (points_of is.kept) is.drawable) in
     faultless_draws kind (n ∷ new) small (mended_is_faultless kind ints n new h)

@@ -1,12 +1,11 @@
 -- What draws a geometry stays: features, layers and tiles that keep every rule.
-use Rattle.std.proofs.Common.{◌≡◌, ℕ, ◌+◌, ◌&&◌, nat_le, length, ◌==◌, Bool, true, false, List, [], ◌∷◌, ◌++◌, Some, None, if◌then◌else◌, append_assoc, append-nil, refl, sym, ap, ◌∙◌, arith}
+use Rattle.std.proofs.Common.{◌≡◌, ℕ, ◌+◌, ◌&&◌, not, ◌==◌, Bool, true, false, List, [], ◌∷◌, ◌++◌, Some, None, if◌then◌else◌, append_assoc, append-nil, refl, sym, ap, ◌∙◌, arith}
 use Rattle.std.proofs.lemmas.Bool.Decides.{nat_tests}
 use Rattle.mvt_base.specs.declared.TheConstants.{LIMIT}
 use Rattle.mvt_base.specs.Related.{AreRelated}
 use Rattle.mvt_attrs.specs.Values.{Value}
 use Rattle.mvt_wire.proofs.WireLaws.{packed_function_only, split_function_only}
 use Rattle.mvt_wire.specs.Field.{Content, varint, fixed64, bytes, fixed32, Entry}
-use Rattle.mvt_wire.specs.Packed.{is_nil}
 use Rattle.mvt_wire.specs.Split.{split}
 use Rattle.mvt_feature.specs.declared.feature.Feature.{Feature}
 use Rattle.mvt_feature.specs.declared.numbers.feature.TheConstants.{GEOMETRY}
@@ -22,12 +21,11 @@ use Rattle.mvt_message.specs.LayerFields.{bytes_of, is_two, keys_in, version_in}
 use Rattle.mvt_tile_value.specs.declared.numbers.tile.TheConstants.{LAYERS}
 use Rattle.mvt_tile_value.specs.declared.tile.Tile.{Tile}
 use Rattle.mvt_tile_value.specs.Tiles.{HoldsItem, IsTile, layers_of}
-use Rattle.mvt_mend.specs.Changes.{changes_of, told_by}
-use Rattle.mvt_mend.specs.Features.{feature_changes, integers_after, integers_of, is_list}
-use Rattle.mvt_mend.specs.Spelling.{has_rings}
-use Rattle.mvt_mend.specs.Tiles.{changes_from, changes_in, is_layer, layer_changes, mended, told_at}
+use Rattle.mvt_mend.specs.Changes.{changes_of}
+use Rattle.mvt_mend.specs.Features.{feature_changes, feature_outcome, integers_after, integers_of, is_list}
+use Rattle.mvt_mend.specs.Tiles.{changes_from, changes_in, has_layers, is_layer, is_long_winded, layer_changes, mended, told_at}
 use Rattle.mvt_mend.proofs.FieldsLemmas.{list_number, list_numbers, listed}
-use Rattle.mvt_mend.proofs.OnceLemmas.{drawn_stays}
+use Rattle.mvt_mend.proofs.OnceLemmas.{drawn_stays_whole}
 use Rattle.mvt_mend.proofs.MendedTileLemmas.{unchanged}
 
 numbers_listed : (c : Content) (numbers : List ℕ) → AreNumbers c numbers → (is_list c ≡ true) × (numbers_of c ≡ numbers)
@@ -57,15 +55,15 @@ joined_listed before (x ∷ xs) numbers are =
 -- nothing is changed of a feature
 pub feature_stays : (layer n : ℕ) (payload : List ℕ) (keys : List (List ℕ)) (values : List Value) (f : Feature)
     → IsFeatureOf payload keys values f → feature_changes layer n payload ≡ []
-unfolding feature_changes changes_of
+unfolding feature_changes feature_outcome
 feature_stays layer n payload keys values f (fields, whole, is) =
     let found = split_function_only payload [] fields whole in
     let ints = is.integers in
     let read : Some ints ≡ integers_of payload =
     listed payload (split payload).rest ints refl (sym found.1)
     (sym (ap (integers_after []) (sym found.0) ∙ joined_listed [] fields ints is.integers_are)) in
-    let drawn = drawn_stays (kind_in fields) ints f.geometry is.geometry in
-    rw (← read, ← found.0) (ap (told_by layer n (has_rings (kind_in fields)) ints) drawn)
+    let drawn = drawn_stays_whole (kind_in fields) ints f.geometry is.geometry in
+    rw (← read, ← found.0) (ap (changes_of layer n) drawn)
 
 -- nothing is changed of the features of a layer
 features_stay : (layer n : ℕ) (keys : List (List ℕ)) (values : List Value) (fields : List Entry) (features : List Feature)
@@ -131,7 +129,7 @@ pub tile_stays_changes : (input : List ℕ) (tile : Tile) → IsTile LIMIT input
 unfolding changes_in
 tile_stays_changes input tile is =
     let found = split_function_only input [] is.fields is.whole in
-    by_test (nat_le (length input) LIMIT && is_nil (split input).rest) (rw (← found.0) (layers_stay 0 is.fields tile.items is.items))
+    by_test (has_layers input && not (is_long_winded input)) (rw (← found.0) (layers_stay 0 is.fields tile.items is.items))
   where
     by_test : (b : Bool) → changes_from layer_changes LAYERS 0 (split input).fields ≡ []
         → (if b then changes_from layer_changes LAYERS 0 (split input).fields else []) ≡ []

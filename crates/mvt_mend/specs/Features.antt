@@ -8,8 +8,11 @@ use Rattle.mvt_wire.specs.Split.{split}
 use Rattle.mvt_feature.specs.declared.numbers.feature.TheConstants.{GEOMETRY}
 use Rattle.mvt_feature.specs.FeatureRules.{kind_in, list_rules, numbers_of}
 use Rattle.mvt_mend.specs.declared.change.Change.{Change}
-use Rattle.mvt_mend.specs.Changes.{changes_of}
-use Rattle.mvt_mend.specs.Geometry.{mended_geometry}
+use Rattle.mvt_mend.specs.declared.change.Unmended.{Unmended}
+use Rattle.mvt_mend.specs.declared.geometry.Outcome.{Outcome}
+use Rattle.mvt_mend.specs.declared.geometry.Outcome.TheVariants.{Stays}
+use Rattle.mvt_mend.specs.Changes.{cause_of, changes_of}
+use Rattle.mvt_mend.specs.Geometry.{geometry_steps, mended_geometry, outcome}
 
 -- a list of numbers
 unfoldable pub is_list : Content → Bool
@@ -49,10 +52,27 @@ feature_with payload (Some (n ∷ ints)) = with_integers payload (n ∷ ints) �
 unfoldable pub mended_feature : List ℕ → List (List ℕ)
 mended_feature payload = feature_with payload (mended_integers payload)
 
-abbrev pub changes_with : ℕ → ℕ → List Entry → Option (List ℕ) → List Change
-changes_with layer feature fields None = []
-changes_with layer feature fields (Some ints) = changes_of layer feature (kind_in fields) ints
+-- what comes of these integers of a payload, if it has such
+abbrev pub outcome_with : List Entry → Option (List ℕ) → Outcome
+outcome_with fields None = Stays
+outcome_with fields (Some ints) = outcome (kind_in fields) ints
+
+-- what comes of a feature's geometry
+unfoldable pub feature_outcome : List ℕ → Outcome
+feature_outcome payload = outcome_with (split payload).fields (integers_of payload)
 
 -- what is changed of a feature
 unfoldable pub feature_changes : ℕ → ℕ → List ℕ → List Change
-feature_changes layer feature payload = changes_with layer feature (split payload).fields (integers_of payload)
+feature_changes layer feature payload = changes_of layer feature (feature_outcome payload)
+
+-- why it isn't mended, where it isn't
+unfoldable pub feature_cause : ℕ → ℕ → List ℕ → Unmended
+feature_cause layer feature payload = cause_of layer feature (feature_outcome payload)
+
+abbrev pub steps_with : List Entry → Option (List ℕ) → ℕ
+steps_with fields None = 0
+steps_with fields (Some ints) = geometry_steps (kind_in fields) ints
+
+-- the steps that telling its rings takes
+unfoldable pub feature_steps : List ℕ → ℕ
+feature_steps payload = steps_with (split payload).fields (integers_of payload)

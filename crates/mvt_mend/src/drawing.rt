@@ -4,10 +4,11 @@ ghost use Rattle.mvt_geometry.specs.Shape.{last_of as the_last_of};
 ghost use Rattle.mvt_geometry.specs.Drawing.{path_from, stroke};
 ghost use Rattle.mvt_wire.specs.Zigzag.{zig};
 ghost use Rattle.mvt_mend.specs.Drawing.{is_near, are_near, can_draw, closing, drawn_parts};
+ghost use Rattle.mvt_mend.specs.Geometry.{points_of};
 
 use crate::reading::{CLOSE_PATH, LINE_TO, MOVE_TO_ONE, is_outside};
-use mvt_base::Items;
 use mvt_geometry::Point;
+use mvt_rings::Kept;
 use mvt_wire::zigzag32;
 use std::alloc::{AllocError, Global};
 
@@ -18,14 +19,16 @@ const MOST_POINTS: usize = 536_870_912;
 pub(crate) fn write_parts(
     alloc: Global,
     is_ring: bool,
-    parts: &[Items<Point>],
+    parts: &[Kept],
 ) -> Result<Option<Vec<u32>>, AllocError>
-    ensures { IfOk result (λ r. option_map (λ v. v.items) r ≡ drawn_parts is_ring parts.now) }
+    ensures { IfOk result (λ r. option_map (λ v. v.items) r
+        ≡ drawn_parts is_ring (points_of parts.now)) }
 {
     let mut integers = Vec::new(alloc);
     let mut cursor = Point { x: 0, y: 0 };
     for part in parts {
-        let Some(last) = write_part(&mut integers, is_ring, cursor, part.as_slice())? else {
+        let points = part.points.as_slice();
+        let Some(last) = write_part(&mut integers, is_ring, cursor, points)? else {
             return Ok(None);
         };
         cursor = last;

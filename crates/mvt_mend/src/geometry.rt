@@ -1,90 +1,138 @@
 //! A geometry mended.
-ghost use Rattle.std.specs.Prelude.{◌≡◌, option_map, IfOk};
-ghost use Rattle.mvt_mend.specs.Geometry.{is_faultless as has_no_fault, mended_parts, if_drawn as drawn_or_nothing, mended_as, mended_geometry};
+ghost use Rattle.std.specs.Prelude.{◌≡◌, ◌+◌, true, false, option_map, IfOk, IfErr, OnOk};
+ghost use Rattle.mvt_mend.specs.Geometry.{is_faultless as has_no_fault, if_drawn as drawn_or_nothing, if_kept, kept_in as the_kept, points_of as the_points, outcome as the_outcome, outcome_as as the_outcome_as, mended_geometry, geometry_steps, steps_read};
+ghost use Rattle.mvt_rings.specs.Steps.{IsEnded};
+ghost use Rattle.mvt_rings.specs.Mending.{mending_steps};
 
 use crate::drawing::write_parts;
-use crate::mending::{mend_lines, mend_rings};
 use crate::reading::read_parts;
 use mvt_base::Items;
 use mvt_geometry::{Kind, Point, judge_geometry};
+use mvt_rings::{Crossing, Ended, Kept, MendedRings, mend_lines, mend_rings};
 use std::alloc::{AllocError, Global};
+
+/// The most steps in which the rings of a tile are told: 2^30, some seconds.
+pub const MOST_STEPS: u64 = 1_073_741_824;
+
+/// What comes of the integers of a geometry.
+#[derive(Debug, Drop)]
+pub(crate) enum Outcome {
+    /// They stay: they draw a geometry, or break another rule, or nothing can be drawn anew.
+    Stays,
+    /// They stay: two of their rings cross.
+    Crosses(Crossing),
+    /// Others stand in their place, or none at all.
+    Becomes(Remade),
+}
+
+/// A geometry's lines or rings, those that stay, and the integers that draw these.
+#[derive(Debug, Drop)]
+pub(crate) struct Remade {
+    pub(crate) parts: Items<Items<Point>>,
+    pub(crate) kept: Items<Kept>,
+    pub(crate) integers: Items<u32>,
+}
 
 /// The integers that stand in place of others which break one of two rules (sections 4.3.3.2 and
 /// 4.3.4.4): a point of a line or ring equals the one before, or the first ring has negative area.
 ///
-/// None where they stay: they draw a geometry; they break another rule too; what they become can't
-/// be drawn; or telling rings by nesting takes more than 32 steps for each integer. No integers
-/// where nothing is left of the geometry.
+/// None where they stay: they draw a geometry; they break another rule too; rings cross by more
+/// than rounding explains; or what they become can't be drawn. No integers where nothing is left of
+/// the geometry.
 ///
 /// # Errors
 ///
-/// When memory runs out.
-pub fn mend_geometry(
+/// When memory runs out, or when telling rings takes more than [`MOST_STEPS`].
+pub fn mend_geometry(alloc: Global, kind: Kind, integers: &[u32]) -> Result<Option<Vec<u32>>, Ended>
+    ensures is { IfOk result (λ r. option_map (λ v. v.items) r
+        ≡ mended_geometry kind integers.now) }
+    ensures ended { IfErr result (λ e. IsEnded e MOST_STEPS (geometry_steps kind integers.now)) }
+{
+    let mut left = MOST_STEPS;
+    match outcome_of(alloc, kind, integers, &mut left)? {
+        Outcome::Stays => Ok(None),
+        Outcome::Crosses(_) => Ok(None),
+        Outcome::Becomes(remade) => Ok(Some(remade.integers.into_vec())),
+    }
+}
+
+/// What comes of the integers of a geometry, and what is left of so many steps.
+#[tactic(auto, unfolding(crate::specs::Geometry::outcome, crate::specs::Geometry::geometry_steps))]
+pub(crate) fn outcome_of(
     alloc: Global,
     kind: Kind,
     integers: &[u32],
-) -> Result<Option<Vec<u32>>, AllocError>
-    ensures { IfOk result (λ r. option_map (λ v. v.items) r ≡ mended_geometry kind integers.now) }
+    left: &mut u64,
+) -> Result<Outcome, Ended>
+    ensures is { IfOk result (λ r. r ≡ the_outcome kind integers.now) }
+    ensures left { OnOk result (left.new + geometry_steps kind integers.now ≡ left.old) }
+    ensures ended { IfErr result (λ e. IsEnded e left.old (geometry_steps kind integers.now)) }
 {
     match kind {
-        Kind::Unknown | Kind::Point => Ok(None),
-        Kind::LineString => mend_as(alloc, kind, false, integers),
-        Kind::Polygon => mend_as(alloc, kind, true, integers),
+        Kind::Unknown | Kind::Point => Ok(Outcome::Stays),
+        Kind::LineString => Ok(lines_outcome(alloc, integers)?),
+        Kind::Polygon => rings_outcome(alloc, integers, left),
     }
 }
 
-/// The integers that stand in place of those of lines or rings.
-fn mend_as(
+/// The same of lines.
+#[tactic(auto, unfolding(crate::specs::Geometry::outcome_as))]
+fn lines_outcome(alloc: Global, integers: &[u32]) -> Result<Outcome, AllocError>
+    ensures { IfOk result (λ r. r ≡ the_outcome_as Kind.LineString false integers.now) }
+{
+    if is_faultless(Kind::LineString, integers) {
+        return Ok(Outcome::Stays);
+    }
+    let Some(parts) = read_parts(alloc, false, integers)? else {
+        return Ok(Outcome::Stays);
+    };
+    let kept = mend_lines(alloc, parts.as_slice())?;
+    drawn(alloc, Kind::LineString, false, parts, kept)
+}
+
+/// The same of rings.
+#[tactic(auto, unfolding(crate::specs::Geometry::outcome_as, crate::specs::Geometry::geometry_steps))]
+fn rings_outcome(alloc: Global, integers: &[u32], left: &mut u64) -> Result<Outcome, Ended>
+    ensures is { IfOk result (λ r. r ≡ the_outcome_as Kind.Polygon true integers.now) }
+    ensures left { OnOk result (left.new + geometry_steps Kind.Polygon integers.now ≡ left.old) }
+    ensures ended { IfErr result (λ e. IsEnded e left.old (geometry_steps Kind.Polygon integers.now)) }
+{
+    if is_faultless(Kind::Polygon, integers) {
+        return Ok(Outcome::Stays);
+    }
+    let Some(parts) = read_parts(alloc, true, integers)? else {
+        return Ok(Outcome::Stays);
+    };
+    let made = mend_rings(alloc, parts.as_slice(), *left)?;
+    let MendedRings { rings, left: rest } = made;
+    *left = rest;
+    match rings {
+        Ok(kept) => Ok(drawn(alloc, Kind::Polygon, true, parts, kept)?),
+        Err(crossing) => Ok(Outcome::Crosses(crossing)),
+    }
+}
+
+/// What comes of lines or rings, of which these stay.
+fn drawn(
     alloc: Global,
     kind: Kind,
     is_ring: bool,
-    integers: &[u32],
-) -> Result<Option<Vec<u32>>, AllocError>
-    ensures { IfOk result (λ r. option_map (λ v. v.items) r ≡ mended_as kind is_ring integers.now) }
+    parts: Vec<Items<Point>>,
+    kept: Items<Kept>,
+) -> Result<Outcome, AllocError>
+    ensures { IfOk result (λ r. r ≡ if_kept kind is_ring parts.items (Ok kept)) }
 {
-    if is_faultless(kind, integers) {
-        return Ok(None);
-    }
-    let Some(parts) = read_parts(alloc, is_ring, integers)? else {
-        return Ok(None);
+    let Some(integers) = write_parts(alloc, is_ring, kept.as_slice())? else {
+        return Ok(Outcome::Stays);
     };
-    let Some(mended) = mend_parts(alloc, is_ring, integers.len(), parts.as_slice())? else {
-        return Ok(None);
-    };
-    let Some(drawn) = write_parts(alloc, is_ring, mended.as_slice())? else {
-        return Ok(None);
-    };
-    Ok(if_drawn(kind, drawn))
-}
-
-/// Lines or rings mended, in 32 steps of nesting at most for each of so many integers.
-pub(crate) fn mend_parts(
-    alloc: Global,
-    is_ring: bool,
-    count: usize,
-    parts: &[Items<Point>],
-) -> Result<Option<Items<Items<Point>>>, AllocError>
-    ensures { IfOk result (λ r. r ≡ mended_parts is_ring count parts.now) }
-{
-    if is_ring {
-        mend_rings(alloc, parts, 32 * (count as u128))
-    } else {
-        Ok(Some(mend_lines(alloc, parts)?))
+    if !integers.is_empty() && !is_faultless(kind, &integers) {
+        return Ok(Outcome::Stays);
     }
-}
-
-/// The integers, if they draw a geometry or are none.
-fn if_drawn(kind: Kind, integers: Vec<u32>) -> Option<Vec<u32>>
-    ensures { option_map (λ v. v.items) result ≡ drawn_or_nothing kind integers.items }
-{
-    if integers.len() == 0 {
-        return Some(integers);
-    }
-    if is_faultless(kind, integers.as_slice()) {
-        Some(integers)
-    } else {
-        None
-    }
+    Ok(Outcome::Becomes(Remade {
+        parts: Items::new(parts),
+        kept,
+        integers: Items::new(integers),
+    }))
 }
 
 /// Whether the integers draw a geometry.

@@ -1,21 +1,20 @@
 //! Laws about the definitions alone: functions without effect, whose contract is the law.
-ghost use Rattle.std.specs.Prelude.{◌≡◌, ◌<◌, ℕ, Bool, true, List, [], ◌∷◌, length, None, Some, pos, neg_ℤ, ◌≤ℤ◌};
+ghost use Rattle.std.specs.Prelude.{◌≡◌, ◌<◌, ℕ, Bool, true, List, [], ◌∷◌, length, None, Some};
 ghost use Rattle.std.specs.List.{AllByRecursion};
 ghost use Rattle.mvt_geometry.specs.declared.shape.Geometry.{Geometry};
 ghost use Rattle.mvt_geometry.specs.declared.shape.Kind.{Kind};
 ghost use Rattle.mvt_geometry.specs.declared.shape.Point.{Point};
-ghost use Rattle.mvt_geometry.specs.Area.{area2};
 ghost use Rattle.mvt_geometry.specs.Drawing.{Draws, strokes};
 ghost use Rattle.mvt_geometry.specs.Shape.{origin};
 ghost use Rattle.mvt_geometry.specs.Table.{geometry_fault};
 ghost use Rattle.mvt_mend.specs.Drawing.{can_draw_all, closing};
-ghost use Rattle.mvt_mend.specs.Geometry.{mended_geometry};
-ghost use Rattle.mvt_mend.specs.Mending.{mended_lines, mended_rings};
+ghost use Rattle.mvt_mend.specs.Geometry.{mended_geometry, points_of};
+ghost use Rattle.mvt_rings.specs.Mending.{mended_lines};
 ghost use Rattle.mvt_mend.specs.Origins.{ComeFrom};
 ghost use Rattle.mvt_mend.specs.Reading.{parts_in};
 ghost use Rattle.mvt_mend.specs.Spelling.{has_rings, HasForm, IsMendedTo};
-ghost use Rattle.mvt_mend.specs.Tiles.{changes_in, mended};
-ghost use Rattle.mvt_mend.specs.Turning.{turned, as_exterior, as_interior};
+ghost use Rattle.mvt_mend.specs.declared.change.Unmended.TheVariants.{AnotherRule};
+ghost use Rattle.mvt_mend.specs.Tiles.{cause_in, changes_in, mended};
 ghost use Rattle.mvt_tile_value.specs.declared.tile.Tile.{Tile};
 ghost use Rattle.mvt_tile_value.specs.Tiles.{IsTile};
 
@@ -40,6 +39,11 @@ pub fn long_stays()
     ensures { (input : List ℕ) → LIMIT < length input → mended input ≡ input }
 {}
 
+/// Of more bytes than the limit nothing more is told than that another rule is broken.
+pub fn long_cause()
+    ensures { (input : List ℕ) → LIMIT < length input → cause_in input ≡ AnotherRule }
+{}
+
 /// What stands in place of integers breaks no rule, or is none at all.
 pub fn mended_is_faultless()
     ensures { (kind : Kind) (ints : List ℕ) (n : ℕ) (new : List ℕ)
@@ -61,14 +65,7 @@ pub fn mended_once()
 /// Each line that remains has the points of a line of its own without the repeated ones, and the
 /// lines remain in their order.
 pub fn lines_come_from_lines()
-    ensures { (lines : List (List Point)) → ComeFrom lines (mended_lines lines) }
-{}
-
-/// Each ring that remains has the points of a ring of its own without the repeated ones, in its
-/// direction or in the other, and the rings remain in their order.
-pub fn rings_come_from_rings()
-    ensures { (steps : ℕ) (rings mended : List (List Point))
-        → mended_rings steps rings ≡ Some mended → ComeFrom rings mended }
+    ensures { (lines : List (List Point)) → ComeFrom lines (points_of (mended_lines lines)) }
 {}
 
 /// What stands in place of integers spells lines or rings that come from those that they spell.
@@ -82,15 +79,4 @@ pub fn spelled_is_read()
     ensures { (ring : Bool) (parts : List (List Point)) → 0 < length parts
         → can_draw_all origin parts ≡ true → AllByRecursion (HasForm ring) parts
         → parts_in ring (strokes (closing ring) origin parts) ≡ Some parts }
-{}
-
-/// A ring told in the other direction has the opposite area.
-pub fn turned_area()
-    ensures { (ring : List Point) → area2 (turned ring) ≡ neg_ℤ (area2 ring) }
-{}
-
-/// As an exterior one a ring has no negative area, and as an interior one no positive area.
-pub fn directed_area()
-    ensures exterior { (ring : List Point) → pos 0 ≤ℤ area2 (as_exterior ring) }
-    ensures interior { (ring : List Point) → area2 (as_interior ring) ≤ℤ pos 0 }
 {}

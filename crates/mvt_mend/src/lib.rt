@@ -4,23 +4,19 @@
 
 mod change;
 mod drawing;
+mod fates;
 mod features;
 mod geometry;
 pub mod laws;
 mod layers;
 mod lines;
-mod mending;
-mod nesting;
 mod reading;
-mod repeats;
-mod signs;
 mod telling;
 mod tile;
 mod tiles;
-mod turning;
 
-pub use change::Change;
-pub use geometry::mend_geometry;
-pub use lines::change_text;
-pub use mending::{mend_lines, mend_rings};
-pub use tile::{MendedTile, mend_tile};
+pub use change::{Change, Unmended};
+pub use geometry::{MOST_STEPS, mend_geometry};
+pub use lines::{change_text, unmended_text};
+pub use mvt_rings::{Crossing, Ended, Kept, MendedRings, mend_lines, mend_rings};
+pub use tile::{MendError, MendedTile, mend_tile};

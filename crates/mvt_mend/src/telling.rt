@@ -1,244 +1,223 @@
-//! What is changed of a geometry that is mended.
-ghost use Rattle.std.specs.Prelude.{◌≡◌, ◌++◌, length, map, option_map, IfOk, OnOk};
-ghost use Rattle.mvt_mend.specs.Changes.{changes_of, is_turned as became_turned, kept_after, kept_lines, kept_parts as the_kept_parts, kept_rings as the_kept_rings, repeats_told, told_from, told_read, turn_told};
-ghost use Rattle.mvt_mend.specs.Geometry.{mended_geometry};
-ghost use Rattle.mvt_mend.specs.Reading.{parts_in};
-ghost use Rattle.mvt_mend.specs.Repeats.{without_repeats as apart};
-ghost use Rattle.mvt_mend.specs.Spelling.{has_rings as are_rings};
+//! What is changed of a geometry that is mended, or why it isn't.
+ghost use Rattle.std.specs.Prelude.{◌≡◌, ◌+◌, ◌++◌, ◌<◌, ◌≤◌, [], length, option_map, IfOk, IfErr, OnOk};
+ghost use Rattle.mvt_mend.specs.Changes.{cause_of as the_cause, changes_of, count_points as the_count, first_cause as the_first_cause, is_turned as became_turned, move_told, repeats_told, told_from, told_of, told_remade, turn_told, with_staying as the_with_staying};
+ghost use Rattle.mvt_mend.specs.Geometry.{geometry_steps, mended_geometry, outcome as the_outcome};
+ghost use Rattle.mvt_rings.specs.Steps.{IsEnded};
 
-use crate::change::Change;
-use crate::geometry::{mend_geometry, mend_parts};
-use crate::reading::read_parts;
-use crate::repeats::without_repeats;
-use crate::signs::{is_negative, is_positive};
+use crate::change::{Change, Unmended};
+use crate::fates::{Fate, fate_at, fates_of};
+use crate::geometry::{Outcome, Remade, outcome_of};
 use mvt_base::Items;
 use mvt_geometry::{Kind, Point};
+use mvt_rings::{Ended, is_negative, is_positive};
 use std::alloc::{AllocError, Global};
 
-/// The integers that stand in place of others, as [`mend_geometry`] makes them, and what is changed
-/// of this feature, which is added to a list.
-///
-/// # Errors
-///
-/// When memory runs out.
-#[tactic(auto, unfolding(crate::specs::Changes::changes_of))]
+/// What is told of a tile so far: what is changed, why something isn't mended, and how many steps
+/// are left.
+#[derive(Debug, Drop)]
+pub(crate) struct Told {
+    pub(crate) changes: Vec<Change>,
+    pub(crate) cause: Unmended,
+    pub(crate) left: u64,
+}
+
+/// The integers that stand in place of others, if they don't stay; what is changed of this feature,
+/// or why it isn't mended, is told.
 pub(crate) fn mend_told(
     alloc: Global,
     layer: usize,
     feature: usize,
     kind: Kind,
     integers: &[u32],
-    changes: &mut Vec<Change>,
-) -> Result<Option<Vec<u32>>, AllocError>
+    told: &mut Told,
+) -> Result<Option<Vec<u32>>, Ended>
     ensures integers { IfOk result (λ r. option_map (λ v. v.items) r
         ≡ mended_geometry kind integers.now) }
-    ensures changes { OnOk result (changes.new.items
-        ≡ changes.old.items ++ changes_of layer feature kind integers.now) }
+    ensures changes { OnOk result (told.new.changes.items ≡ told.old.changes.items
+        ++ changes_of layer feature (the_outcome kind integers.now)) }
+    ensures cause { OnOk result (told.new.cause ≡ the_first_cause told.old.cause
+        (the_cause layer feature (the_outcome kind integers.now))) }
+    ensures left { OnOk result (told.new.left + geometry_steps kind integers.now ≡ told.old.left) }
+    ensures ended { IfErr result
+        (λ e. IsEnded e told.old.left (geometry_steps kind integers.now)) }
 {
-    let Some(mended) = mend_geometry(alloc, kind, integers)? else {
-        return Ok(None);
-    };
-    if mended.len() == 0 {
-        changes.push(Change::FeatureLeftOut(layer, feature))?;
-        return Ok(Some(mended));
-    }
-    tell(alloc, layer, feature, has_rings(kind), integers, changes)?;
-    Ok(Some(mended))
-}
-
-/// Whether the parts of this type of geometry are rings.
-fn has_rings(kind: Kind) -> bool
-    ensures { result ≡ are_rings kind }
-{
-    match kind {
-        Kind::Polygon => true,
-        Kind::Unknown | Kind::Point | Kind::LineString => false,
+    match outcome_of(alloc, kind, integers, &mut told.left)? {
+        Outcome::Stays => Ok(None),
+        Outcome::Crosses(crossing) => {
+            let cause = Unmended::RingsCross(layer, feature, crossing);
+            told.cause = first_cause(told.cause, cause);
+            Ok(None)
+        }
+        Outcome::Becomes(remade) => {
+            tell_remade(alloc, layer, feature, &remade, &mut told.changes)?;
+            Ok(Some(remade.integers.into_vec()))
+        }
     }
 }
 
-/// Adds what is changed of the lines or rings of integers.
-fn tell(
+/// Of two causes the first that says more than that another rule is broken.
+fn first_cause(cause: Unmended, other: Unmended) -> Unmended
+    ensures { result ≡ the_first_cause cause other }
+{
+    match cause {
+        Unmended::AnotherRule => other,
+        Unmended::RingsCross(_, _, _) => cause,
+        Unmended::TooManySteps => cause,
+    }
+}
+
+/// Tells what is changed of a geometry.
+fn tell_remade(
     alloc: Global,
     layer: usize,
     feature: usize,
-    is_ring: bool,
-    integers: &[u32],
+    remade: &Remade,
     changes: &mut Vec<Change>,
 ) -> Result<(), AllocError>
-    ensures { OnOk result (changes.new.items ≡ changes.old.items
-        ++ told_read layer feature is_ring (length integers.now) (parts_in is_ring integers.now)) }
+    ensures { OnOk result (changes.new.items
+        ≡ changes.old.items ++ told_remade layer feature remade.now) }
 {
-    let Some(parts) = read_parts(alloc, is_ring, integers)? else {
+    let parts = remade.parts.as_slice();
+    if remade.integers.as_slice().len() == 0 {
+        changes.push(Change::FeatureLeftOut(layer, feature, count_points(parts)))?;
         return Ok(());
-    };
-    let parts = parts.as_slice();
-    let Some(mended) = mend_parts(alloc, is_ring, integers.len(), parts)? else {
-        return Ok(());
-    };
-    let kept = kept_parts(alloc, is_ring, parts)?;
-    tell_parts(
-        alloc,
-        layer,
-        feature,
-        parts,
-        &kept,
-        mended.as_slice(),
-        changes,
-    )
-}
-
-/// Whether each line or ring stays, without its repeated points.
-fn kept_parts(alloc: Global, is_ring: bool, parts: &[Items<Point>]) -> Result<Vec<bool>, AllocError>
-    ensures { IfOk result (λ kept. kept.items ≡ the_kept_parts is_ring parts.now) }
-{
-    let apart = all_apart(alloc, parts)?;
-    if is_ring {
-        kept_rings(alloc, &apart)
-    } else {
-        long_parts(alloc, &apart)
     }
+    let fates = fates_of(alloc, parts, remade.kept.as_slice())?;
+    tell_parts(layer, feature, parts, &fates, changes)
 }
 
-/// Lines or rings without their repeated points.
-fn all_apart(alloc: Global, parts: &[Items<Point>]) -> Result<Vec<Items<Point>>, AllocError>
-    ensures { IfOk result (λ all. all.items ≡ map apart parts.now) }
+/// The points of lines or rings.
+fn count_points(parts: &[Items<Point>]) -> usize
+    ensures { result ≡ the_count parts.now }
 {
-    let mut all = Vec::with_capacity(alloc, parts.len())?;
+    let mut count = 0usize;
     for part in parts {
-        all.push(without_repeats(alloc, part.as_slice())?)?;
+        count = count.saturating_add(part.as_slice().len());
     }
-    Ok(all)
+    count
 }
 
-/// Whether each line has two points at least.
-fn long_parts(alloc: Global, lines: &[Items<Point>]) -> Result<Vec<bool>, AllocError>
-    ensures { IfOk result (λ kept. kept.items ≡ kept_lines lines.now) }
-{
-    let mut kept = Vec::with_capacity(alloc, lines.len())?;
-    for line in lines {
-        kept.push(line.as_slice().len() >= 2)?;
-    }
-    Ok(kept)
-}
-
-/// Whether each ring stays: it has three points at least, and isn't an interior ring of an exterior
-/// one that is left out.
-fn kept_rings(alloc: Global, rings: &[Items<Point>]) -> Result<Vec<bool>, AllocError>
-    ensures { IfOk result (λ kept. kept.items ≡ the_kept_rings rings.now) }
-{
-    let mut kept = Vec::with_capacity(alloc, rings.len())?;
-    let [first, others @ ..] = rings else {
-        return Ok(kept);
-    };
-    let is_long = first.as_slice().len() >= 3;
-    kept.push(is_long)?;
-    push_kept(&mut kept, !is_long, others)?;
-    Ok(kept)
-}
-
-/// Adds whether each ring stays, after one that is gone or not.
-fn push_kept(kept: &mut Vec<bool>, gone: bool, rings: &[Items<Point>]) -> Result<(), AllocError>
-    ensures { OnOk result (kept.new.items ≡ kept.old.items ++ kept_after gone rings.now) }
-{
-    let mut gone = gone;
-    for ring in rings {
-        let ring = ring.as_slice();
-        if gone && !is_positive(ring) {
-            kept.push(false)?;
-            continue;
-        }
-        gone = false;
-        kept.push(ring.len() >= 3)?;
-    }
-    Ok(())
-}
-
-/// Adds what is changed of lines or rings, some of which stay and became others.
+/// Tells what became of lines or rings.
 fn tell_parts(
-    alloc: Global,
     layer: usize,
     feature: usize,
     parts: &[Items<Point>],
-    kept: &[bool],
-    mended: &[Items<Point>],
+    fates: &[Fate],
     changes: &mut Vec<Change>,
 ) -> Result<(), AllocError>
     ensures { OnOk result (changes.new.items ≡ changes.old.items
-        ++ told_from layer feature 0 parts.now kept.now mended.now) }
+        ++ told_from layer feature fates.now 0 0 parts.now) }
 {
-    let mut stay = kept;
-    let mut rest = mended;
+    let mut before = 0usize;
     for (index, part) in parts.iter().enumerate() {
-        let [stays, more @ ..] = stay else {
-            return Ok(());
-        };
-        stay = more;
-        if !*stays {
-            changes.push(Change::PartLeftOut(layer, feature, index))?;
-            continue;
-        }
-        let [new, others @ ..] = rest else {
-            return Ok(());
-        };
-        tell_repeats(alloc, layer, feature, index, part.as_slice(), changes)?;
-        tell_turn(
+        let fate = fate_at(fates, index);
+        tell_part(
             layer,
             feature,
             index,
+            before,
             part.as_slice(),
-            new.as_slice(),
+            fate,
             changes,
         )?;
-        rest = others;
+        before = with_staying(before, fate);
     }
     Ok(())
 }
 
-/// Adds how many points are left out of a line or ring, if there are some.
+/// The lines or rings before the next that stay.
+fn with_staying(before: usize, fate: Fate) -> usize
+    requires { before < usize.MAX }
+    ensures is { result ≡ the_with_staying before fate }
+    ensures few { result ≤ before + 1 }
+{
+    if fate.place == 0 { before } else { before + 1 }
+}
+
+/// Tells what became of a line or ring, of which so many before it stay.
+fn tell_part(
+    layer: usize,
+    feature: usize,
+    index: usize,
+    before: usize,
+    part: &[Point],
+    fate: Fate,
+    changes: &mut Vec<Change>,
+) -> Result<(), AllocError>
+    requires { before < usize.MAX }
+    ensures { OnOk result (changes.new.items ≡ changes.old.items
+        ++ told_of layer feature index before part.now fate) }
+{
+    if fate.place == 0 {
+        changes.push(Change::PartLeftOut(layer, feature, index, part.len()))?;
+        return Ok(());
+    }
+    tell_repeats(layer, feature, index, part, fate, changes)?;
+    tell_turn(layer, feature, index, part, fate, changes)?;
+    tell_move(layer, feature, index, before, fate, changes)
+}
+
+/// Tells how many points are left out of a line or ring, if there are some.
 fn tell_repeats(
-    alloc: Global,
     layer: usize,
     feature: usize,
     index: usize,
     part: &[Point],
+    fate: Fate,
     changes: &mut Vec<Change>,
 ) -> Result<(), AllocError>
     ensures { OnOk result (changes.new.items ≡ changes.old.items
-        ++ repeats_told layer feature index part.now) }
+        ++ repeats_told layer feature index part.now fate) }
 {
-    let kept = without_repeats(alloc, part)?.as_slice().len();
-    if kept < part.len() {
-        let count = part.len() - kept;
+    if fate.points < part.len() {
+        let count = part.len() - fate.points;
         changes.push(Change::RepeatedPoint(layer, feature, index, count))?;
     }
     Ok(())
 }
 
-/// Adds that a ring has the other direction, if it has.
+/// Tells that a ring has the other direction, if it has.
 fn tell_turn(
     layer: usize,
     feature: usize,
     index: usize,
     ring: &[Point],
-    mended: &[Point],
+    fate: Fate,
     changes: &mut Vec<Change>,
 ) -> Result<(), AllocError>
     ensures { OnOk result (changes.new.items ≡ changes.old.items
-        ++ turn_told layer feature index ring.now mended.now) }
+        ++ turn_told layer feature index ring.now fate) }
 {
-    if is_turned(ring, mended) {
+    if is_turned(ring, fate) {
         changes.push(Change::TurnedRing(layer, feature, index))?;
     }
     Ok(())
 }
 
-/// Whether a ring became one in the other direction.
+/// Whether a ring's area has the other sign.
 #[tactic(auto, unfolding(crate::specs::Changes::is_turned))]
-fn is_turned(ring: &[Point], mended: &[Point]) -> bool
-    ensures { result ≡ became_turned ring.now mended.now }
+fn is_turned(ring: &[Point], fate: Fate) -> bool
+    ensures { result ≡ became_turned ring.now fate }
 {
-    if is_positive(ring) {
-        return is_negative(mended);
+    (is_positive(ring) && fate.is_negative) || (is_negative(ring) && fate.is_positive)
+}
+
+/// Tells where a ring stands, if others stand before it than did.
+fn tell_move(
+    layer: usize,
+    feature: usize,
+    index: usize,
+    before: usize,
+    fate: Fate,
+    changes: &mut Vec<Change>,
+) -> Result<(), AllocError>
+    requires before { before < usize.MAX }
+    ensures { OnOk result (changes.new.items ≡ changes.old.items
+        ++ move_told layer feature index before fate) }
+{
+    if fate.place != before + 1 {
+        let place = fate.place.saturating_sub(1);
+        changes.push(Change::MovedRing(layer, feature, index, place))?;
     }
-    is_negative(ring) && is_positive(mended)
+    Ok(())
 }

@@ -1,7 +1,6 @@
 //! Tiles mended, by their bytes.
 use crate::expect::{expect, expect_eq};
-use mvt_mend::{change_text, mend_tile};
-use mvt_tile::DecodeError;
+use mvt_mend::{MendError, Unmended, change_text, mend_tile};
 use std::process::Abort;
 
 // Layer a with a triangle, whose ring goes the wrong way round, and a line of a point twice, which
@@ -14,14 +13,14 @@ const MENDED: &[u8] = b"\x1A\x17\x78\x02\x0A\x01a\
     \x12\x0D\x18\x03\x22\x09\x09\x00\x00\x12\x02\x02\x01\x00\x0F\x28\x80\x20";
 
 const CHANGES: &str = "mended layer 0 feature 0: TurnedRing 0\n\
-    mended layer 0 feature 1: FeatureLeftOut\n";
+    mended layer 0 feature 1: FeatureLeftOut count 2\n";
 
 // How often a growth was refused: never or once.
 fn refusals(rt: &(impl Abort + AllocGlobal), tile: &[u8], expected: &[u8], changes: &str) -> u8 {
     let mended = match mend_tile(rt.alloc(), tile) {
         Ok(mended) => mended,
         Err(error) => {
-            expect_eq!(rt; error, DecodeError::Memory);
+            expect_eq!(rt; error, MendError::Memory);
             return 1;
         }
     };
@@ -57,8 +56,11 @@ fn refuses_tiles(rt: HostRuntime) {
         .expect(&rt, "bytes");
     match mend_tile(rt.alloc(), &tile) {
         Ok(mended) => drop(mended),
-        Err(DecodeError::Fault(fault)) => expect_eq!(rt; fault.feature, Some(0)),
-        Err(error) => expect_eq!(rt; error, DecodeError::Memory),
+        Err(MendError::Refused(fault, cause)) => {
+            expect_eq!(rt; fault.feature, Some(0));
+            expect_eq!(rt; cause, Unmended::AnotherRule);
+        }
+        Err(error) => expect_eq!(rt; error, MendError::Memory),
     }
     drop(tile);
 }

@@ -10,12 +10,13 @@ use Rattle.mvt_base.specs.Rules.{first}
 use Rattle.mvt_base.proofs.ListLemmas.{take_front, too_long}
 use Rattle.mvt_tile.specs.declared.fault.Fault.{Fault}
 use Rattle.mvt_tile.specs.TileRules.{fault_within, beyond, tile_rules}
-use Rattle.mvt_mend.proofs.MendLaws.{long_stays}
+use Rattle.mvt_mend.proofs.MendLaws.{long_cause, long_stays}
+use Rattle.mvt_mend.specs.Tiles.{cause_in}
 use Rattle.mvt_view.specs.FaultLines.{fault_line}
 use Rattle.mvt_view.proofs.ViewLaws.{front_reports_fault, front_reports_lines}
 use Rattle.mvt_tasks.specs.declared.reply.Reply.{Reply}
 use Rattle.mvt_tasks.specs.declared.task.Task.TheVariants.{Check, Explain, Mend}
-use Rattle.mvt_tasks.specs.Output.{IsExplained, IsMendReply, IsReply, fields_reply}
+use Rattle.mvt_tasks.specs.Output.{IsExplained, IsMendReply, IsReply, fields_reply, unmended_reply}
 
 abbrev judged : ℕ → List ℕ → Option Fault
 judged limit input = if nat_lt limit (length input) then beyond limit (first (tile_rules (take limit input))) else first (tile_rules input)
@@ -93,7 +94,10 @@ mended-front input reply (inl (tile, is_tile, is)) = elim (cases_lt LIMIT (lengt
 mended-front input reply (inr (fault, first_is, broken, is)) = elim (cases_lt LIMIT (length input)) [
   | inl longer ↦
       let here : fault_within LIMIT input ≡ Some fault = sym (fault-front LIMIT input) ∙ first_is in
-      inr (fault, here, rw (long_stays input longer, here) refl, is)
+      let past : LIMIT < length (take (LIMIT + 1) input) = rw (length-take (LIMIT + 1) input) (omega arith) in
+      let cause : cause_in (take (LIMIT + 1) input) ≡ cause_in input =
+      long_cause (take (LIMIT + 1) input) past ∙ sym (long_cause input longer) in
+      inr (fault, here, rw (long_stays input longer, here) refl, is ∙ ap (λ c. unmended_reply c fault) cause)
   | inr short ↦
       subst (λ bytes. IsMendReply LIMIT bytes reply) (take_all (LIMIT + 1) input (omega arith))
       (inr (fault, first_is, broken, is))

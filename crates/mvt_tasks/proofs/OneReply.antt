@@ -2,7 +2,7 @@
 use Rattle.std.proofs.Common.{◌≡◌, ℕ, ◌+◌, List, take, Option, Some, None, IsSome, false, true, inl, inr, refl, sym, ap, ◌∙◌}
 use Rattle.mvt_base.specs.declared.TheConstants.{LIMIT}
 use Rattle.mvt_mend.proofs.MendLaws.{tile_stays_bytes}
-use Rattle.mvt_mend.specs.Tiles.{changes_in, mended}
+use Rattle.mvt_mend.specs.Tiles.{cause_in, changes_in, mended}
 use Rattle.mvt_tile.proofs.TileLaws.{tile_or_fault_clean, tile_or_fault_once, tile_or_fault_there}
 use Rattle.mvt_tile.specs.declared.fault.Fault.{Fault}
 use Rattle.mvt_tile_value.specs.declared.tile.Tile.{Tile}
@@ -11,7 +11,7 @@ use Rattle.mvt_tile_value.specs.Tiles.{IsTile}
 use Rattle.mvt_tasks.specs.declared.reply.Reply.{Reply}
 use Rattle.mvt_tasks.specs.declared.task.Task.{Task}
 use Rattle.mvt_tasks.specs.declared.task.Task.TheVariants.{Fields, Show, Draw, Check, Explain, Lint, Rewrite, Mend, Extract, Version}
-use Rattle.mvt_tasks.specs.Output.{IsReply, IsJudged, IsMendReply, IsPrinted, mended_reply, fault_reply, fields_reply, bytes_reply, layers_reply, lint_reply, done, json_lines, svg_lines, check_lines, told_why, version_line}
+use Rattle.mvt_tasks.specs.Output.{IsReply, IsJudged, IsMendReply, IsPrinted, mended_reply, fault_reply, fields_reply, bytes_reply, layers_reply, lint_reply, done, json_lines, svg_lines, check_lines, told_why, unmended_reply, version_line}
 
 there_is : (of_tile : Tile → Reply) (of_fault : Fault → Reply) (input : List ℕ) (o : Option Fault) → fault_within LIMIT input ≡ o
     → (o ≡ None → (tile : Tile) × IsTile LIMIT input tile) → (reply : Reply) × IsJudged LIMIT of_tile of_fault input reply
@@ -31,7 +31,7 @@ mend_reply_by : (input : List ℕ) (now : Option Fault) → fault_within LIMIT i
 mend_reply_by input now now_is None clean =
     let (tile, is_tile) = tile_or_fault_there (mended input) clean in
     (mended_reply LIMIT (changes_in input) tile, inl (tile, is_tile, refl))
-mend_reply_by input (Some fault) now_is (Some broken) is = (fault_reply fault, inr (fault, now_is, rw is refl, refl))
+mend_reply_by input (Some fault) now_is (Some broken) is = (unmended_reply (cause_in input) fault, inr (fault, now_is, rw is refl, refl))
 mend_reply_by input None now_is (Some broken) is =
     let (tile, is_tile) = tile_or_fault_there input now_is in
     let e : Some broken ≡ None = sym is ∙ ap (fault_within LIMIT) (tile_stays_bytes input tile is_tile) ∙ now_is in cc
@@ -51,7 +51,7 @@ mended_once input a b (inr (f, is_f, broken, a_is)) (inl (t, is_t, b_is)) = elim
 mended_once input a b (inr (f, is_f, f_broken, a_is)) (inr (g, is_g, g_broken, b_is)) =
     let e : Some f ≡ Some g = sym is_f ∙ is_g in
     let same : f ≡ g = cc in
-    a_is ∙ ap fault_reply same ∙ sym b_is
+    a_is ∙ ap (unmended_reply (cause_in input)) same ∙ sym b_is
 
 pub has_reply : (task : Task) (input : List ℕ) → (reply : Reply) × IsReply LIMIT task input reply
 has_reply Fields input = (fields_reply LIMIT input, refl)

@@ -15,8 +15,9 @@ use Rattle.mvt_tile.specs.Reading.{StopsEarly}
 use Rattle.mvt_tile.specs.TileRules.{fault_within}
 use Rattle.mvt_tile_value.specs.Tiles.{IsTile}
 use Rattle.mvt_mend.specs.declared.change.Change.{Change}
-use Rattle.mvt_mend.specs.ChangeLines.{change_line}
-use Rattle.mvt_mend.specs.Tiles.{changes_in, mended}
+use Rattle.mvt_mend.specs.declared.change.Unmended.{Unmended}
+use Rattle.mvt_mend.specs.ChangeLines.{change_line, unmended_line}
+use Rattle.mvt_mend.specs.Tiles.{cause_in, changes_in, mended}
 use Rattle.mvt_places.specs.Explanations.{explanation}
 use Rattle.mvt_view.specs.FaultLines.{fault_line}
 use Rattle.mvt_view.specs.FieldLines.{fields_lines, fields_fault}
@@ -133,12 +134,16 @@ mended_reply limit changes tile =
     if nat_lt limit (length (canonical tile)) then refused (codes "mvt: result larger than 67108864 bytes\n")
     else record (done (canonical tile)) { changes = lines_of_changes changes }
 
--- an input that is a tile once mended, or the line of its fault as it stands
+-- the line of a fault, and that of why it isn't mended
+abbrev pub unmended_reply : Unmended → Fault → Reply
+unmended_reply cause fault = refused (fault_line fault ++ (codes "\n" ++ unmended_line cause))
+
+-- an input that is a tile once mended, or the lines of its fault as it stands and of why it isn't mended
 abbrev pub IsMendReply : ℕ → List ℕ → Reply → Type 0
 IsMendReply limit input reply =
     ((tile : Tile) × IsTile limit (mended input) tile × (reply ≡ mended_reply limit (changes_in input) tile))
     ⊎ ((fault : Fault) × (fault_within limit input ≡ Some fault) × IsSome (fault_within limit (mended input))
-    × (reply ≡ fault_reply fault))
+    × (reply ≡ unmended_reply (cause_in input) fault))
 
 -- the program's name and version
 abbrev pub version_line : List ℕ

@@ -6,13 +6,12 @@ ghost use Rattle.mvt_tasks.specs.Failures.{FailsReading};
 ghost use Rattle.mvt_tasks.specs.Output.{HasOutput, IsMendReply, IsReply, lines_of_changes, refused};
 
 use crate::failure::Failure;
-use crate::refusal::{fault_printed, too_large};
+use crate::refusal::{too_large, unmended_printed};
 use crate::reply::Reply;
 use crate::task::Task;
 use mvt_base::{Items, LIMIT, Text};
 use mvt_io::{Source, read_up_to};
-use mvt_mend::{Change, MendedTile, change_text, mend_tile};
-use mvt_tile::DecodeError;
+use mvt_mend::{Change, MendError, MendedTile, change_text, mend_tile};
 use std::alloc::{AllocError, Global};
 
 /// Reads a tile, and makes the canonical bytes of it mended, and a line for each change.
@@ -38,8 +37,10 @@ fn mended(alloc: Global, input: &[u8]) -> Result<Reply, Failure>
 {
     let MendedTile { bytes, changes } = match mend_tile(alloc, input) {
         Ok(made) => made,
-        Err(DecodeError::Fault(fault)) => return Ok(told(fault_printed(alloc, &fault)?)),
-        Err(DecodeError::Memory | DecodeError::Read(_)) => return Err(Failure::Memory),
+        Err(MendError::Refused(fault, cause)) => {
+            return Ok(told(unmended_printed(alloc, &fault, cause)?));
+        }
+        Err(MendError::Memory) => return Err(Failure::Memory),
     };
     let Some(bytes) = bytes else {
         return Ok(told(too_large(alloc)?));

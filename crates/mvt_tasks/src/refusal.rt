@@ -1,10 +1,12 @@
 //! The lines for a refused tile.
 ghost use Rattle.std.specs.Prelude.{◌≡◌, ◌++◌, IfOk, IfErr, codes};
+ghost use Rattle.mvt_mend.specs.ChangeLines.{unmended_line};
 ghost use Rattle.mvt_view.specs.FaultLines.{fault_line};
 ghost use Rattle.mvt_tasks.specs.Failures.{IsRefusal, refusal_failure};
 
 use crate::failure::Failure;
 use mvt_base::Text;
+use mvt_mend::{Unmended, unmended_text};
 use mvt_tile::{DecodeError, Fault};
 use mvt_view::fault_text;
 use std::alloc::{AllocError, Global};
@@ -17,6 +19,23 @@ pub(crate) fn fault_printed(alloc: Global, fault: &Fault) -> Result<Text, Failur
     let mut line = fault_text(alloc, fault)?;
     line.push_str("\n")?;
     Ok(Text::from_string(line)?)
+}
+
+/// The line of a fault, and that of why it isn't mended.
+pub(crate) fn unmended_printed(
+    alloc: Global,
+    fault: &Fault,
+    cause: Unmended,
+) -> Result<Text, Failure>
+    ensures line { IfOk result (λ line. line
+        ≡ fault_line fault.now ++ (codes "\n" ++ unmended_line cause)) }
+    ensures failed { IfErr result (λ failure. failure ≡ Failure.Memory) }
+{
+    let mut lines = fault_text(alloc, fault)?;
+    lines.push_str("\n")?;
+    let why = unmended_text(alloc, cause)?;
+    lines.push_str(&why)?;
+    Ok(Text::from_string(lines)?)
 }
 
 /// The line of a refused tile, unless memory ran out or a read failed.

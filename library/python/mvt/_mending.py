@@ -10,17 +10,18 @@ from ._numbers import CHANGES
 _Buffer = Union[bytes, bytearray, memoryview]
 
 # A change, as mvt.h has it.
-ROW = Struct("<I4xQQQQ")
+ROW = Struct("<I4xQQQQQ")
 
 
 @dataclass(frozen=True)
 class Change:
     """What `mend` changed, with its place in the tile as it stood, counted from 0.
 
-    `kind` is "TurnedRing", a ring that is told in the other direction; "RepeatedPoint", `count` points that equal the one
-    before them and are left out; "PartLeftOut", a line or ring that has too few points then, or whose exterior ring is left
-    out; or "FeatureLeftOut", where none is left. `part` is a line, or a ring through all polygons of the feature. Its text is
-    that of `mvt mend`.
+    `kind` is "TurnedRing", a ring that is told in the other direction; "RepeatedPoint", `count` points that are left out,
+    each of which equals the one before it, or a ring's first at its end; "PartLeftOut", a line or ring that has too few points
+    then, and had `count`; "FeatureLeftOut", where none is left of `count` points; or "MovedRing", a ring that stands behind
+    the exterior ring that holds it, at index `to` among those that stay. `part` is a line, or a ring through all polygons of
+    the feature. Its text is that of `mvt mend`.
     """
 
     kind: str
@@ -28,11 +29,13 @@ class Change:
     feature: int
     part: Optional[int] = None
     count: Optional[int] = None
+    to: Optional[int] = None
 
     def __str__(self) -> str:
         part = "" if self.part is None else f" {self.part}"
         count = "" if self.count is None else f" count {self.count}"
-        return f"layer {self.layer} feature {self.feature}: {self.kind}{part}{count}"
+        to = "" if self.to is None else f" to {self.to}"
+        return f"layer {self.layer} feature {self.feature}: {self.kind}{part}{count}{to}"
 
 
 class Mended(NamedTuple):
@@ -55,8 +58,13 @@ def mend(tile: _Buffer) -> Mended:
 
 def change_of(row: Sequence[int]) -> Change:
     """The change that a row of the library tells."""
-    kind, layer, feature, part, count = row
+    kind, layer, feature, part, count, to = row
     name = CHANGES[kind]
     return Change(
-        name, layer, feature, None if name == "FeatureLeftOut" else part, count if name == "RepeatedPoint" else None
+        name,
+        layer,
+        feature,
+        None if name == "FeatureLeftOut" else part,
+        None if name in ("TurnedRing", "MovedRing") else count,
+        to if name == "MovedRing" else None,
     )

@@ -56,6 +56,7 @@ CHANGES = {
     2: "RepeatedPoint",
     3: "PartLeftOut",
     4: "FeatureLeftOut",
+    5: "MovedRing",
 }
 
 LOOKALIKES = {

@@ -63,6 +63,7 @@ pub const CHANGE_TURNED_RING: u32 = 1;
 pub const CHANGE_REPEATED_POINT: u32 = 2;
 pub const CHANGE_PART_LEFT_OUT: u32 = 3;
 pub const CHANGE_FEATURE_LEFT_OUT: u32 = 4;
+pub const CHANGE_MOVED_RING: u32 = 5;
 
 pub const NOTE_NO_LAYERS: u32 = 1;
 pub const NOTE_FOREIGN: u32 = 2;
@@ -238,6 +239,7 @@ pub struct ChangeRow {
     pub feature: u64,
     pub part: u64,
     pub count: u64,
+    pub to: u64,
 }
 
 #[repr(C)]

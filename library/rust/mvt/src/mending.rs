@@ -22,17 +22,33 @@ pub struct Mended {
 pub enum Change {
     /// The ring is told in the other direction, from the same first point.
     TurnedRing { layer: u64, feature: u64, part: u64 },
-    /// So many points that equal the one before them are left out.
+    /// So many points are left out: each equals the one before it, or the ring's first at its end.
     RepeatedPoint {
         layer: u64,
         feature: u64,
         part: u64,
         count: u64,
     },
-    /// The line or ring has too few points then, or its exterior ring is left out.
-    PartLeftOut { layer: u64, feature: u64, part: u64 },
-    /// No line or ring is left.
-    FeatureLeftOut { layer: u64, feature: u64 },
+    /// The line or ring has too few points then; it had so many.
+    PartLeftOut {
+        layer: u64,
+        feature: u64,
+        part: u64,
+        count: u64,
+    },
+    /// No line or ring is left of so many points.
+    FeatureLeftOut {
+        layer: u64,
+        feature: u64,
+        count: u64,
+    },
+    /// The ring stands behind the exterior ring that holds it: at this index among those that stay.
+    MovedRing {
+        layer: u64,
+        feature: u64,
+        part: u64,
+        to: u64,
+    },
 }
 
 /// A tile with the two rules mended that producers break most: a point that equals the one before it
@@ -90,8 +106,19 @@ fn change_of(row: &sys::ChangeRow) -> Option<Change> {
             layer,
             feature,
             part,
+            count: row.count,
         },
-        sys::CHANGE_FEATURE_LEFT_OUT => Change::FeatureLeftOut { layer, feature },
+        sys::CHANGE_FEATURE_LEFT_OUT => Change::FeatureLeftOut {
+            layer,
+            feature,
+            count: row.count,
+        },
+        sys::CHANGE_MOVED_RING => Change::MovedRing {
+            layer,
+            feature,
+            part,
+            to: row.to,
+        },
         _ => return None,
     })
 }
@@ -117,10 +144,30 @@ impl fmt::Display for Change {
                 layer,
                 feature,
                 part,
-            } => write!(f, "layer {layer} feature {feature}: PartLeftOut {part}"),
-            Change::FeatureLeftOut { layer, feature } => {
-                write!(f, "layer {layer} feature {feature}: FeatureLeftOut")
+                count,
+            } => write!(
+                f,
+                "layer {layer} feature {feature}: PartLeftOut {part} count {count}"
+            ),
+            Change::FeatureLeftOut {
+                layer,
+                feature,
+                count,
+            } => {
+                write!(
+                    f,
+                    "layer {layer} feature {feature}: FeatureLeftOut count {count}"
+                )
             }
+            Change::MovedRing {
+                layer,
+                feature,
+                part,
+                to,
+            } => write!(
+                f,
+                "layer {layer} feature {feature}: MovedRing {part} to {to}"
+            ),
         }
     }
 }

@@ -499,7 +499,8 @@ fn mended() {
         told.changes,
         [Change::FeatureLeftOut {
             layer: 0,
-            feature: 0
+            feature: 0,
+            count: 2
         }]
     );
     assert_eq!(

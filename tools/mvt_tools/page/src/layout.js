@@ -11,7 +11,7 @@ export const VALUE_KIND = { TEXT: 1, FLOAT: 2, DOUBLE: 3, INT: 4, UINT: 5, SINT:
 export const CAUSE = { Truncated: 1, VarintRange: 2, FieldNumber: 3, WireType: 4, WrongType: 5, NumberRange: 6, NotUtf8: 7, NoVersion: 8, NoName: 10, ValueKind: 11, GeomType: 12, OddTags: 13, KeyIndex: 14, ValueIndex: 15, RepeatedKey: 16, Command: 17, Count: 18, Parameters: 19, ZeroSegment: 20, CoordinateRange: 21, FirstRing: 22, EndsEarly: 23, RepeatedName: 24, TooLarge: 25, ParameterRange: 26, ExteriorRing: 27, InteriorRing: 28 };
 export const NOTE = { NoLayers: 1, Foreign: 2, NoFeatures: 3, RepeatedId: 4, FlatRing: 5, ClosedTwice: 6 };
 export const FINDING = { ZeroExtent: 1, NoGeometry: 2, UnknownGeometry: 3, FarPoint: 4, LargeId: 5, LargeNumber: 6 };
-export const CHANGE = { TurnedRing: 1, RepeatedPoint: 2, PartLeftOut: 3, FeatureLeftOut: 4 };
+export const CHANGE = { TurnedRing: 1, RepeatedPoint: 2, PartLeftOut: 3, FeatureLeftOut: 4, MovedRing: 5 };
 export const LOOKALIKE = { Gzip: 1, Zlib: 2, Zstd: 3, Png: 4, Sqlite: 5, Pmtiles: 6, Json: 7, Html: 8, Jpeg: 9, Gif: 10, Webp: 11, FlatGeobuf: 12, Xz: 13, Bzip2: 14, Zip: 15, Pdf: 16, OsmPbf: 17, Xml: 18, PlainText: 19, Brotli: 20, Mbtiles: 21 };
 
 /** The lists of a tile in their order, with the bytes of a row. */

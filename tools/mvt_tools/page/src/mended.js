@@ -6,7 +6,7 @@ import { counted, grouped } from './text.js';
 
 const CURABLE = [CAUSE.ZeroSegment, CAUSE.FirstRing];
 const UNMENDED = {
-  [STATUS.REFUSED]: 'It can’t be mended: it breaks another rule too.',
+  [STATUS.REFUSED]: 'It can’t be mended: it breaks another rule too, or its rings cross.',
   [STATUS.TOO_LARGE]: 'It can’t be mended: it would be more than 64 MiB.',
 };
 const CHANGED = {
@@ -14,6 +14,7 @@ const CHANGED = {
   RepeatedPoint: 'points that equal the one before them are left out',
   PartLeftOut: 'a line or ring with too few points is left out',
   FeatureLeftOut: 'a feature with nothing left is left out',
+  MovedRing: 'a ring stands behind the exterior ring that holds it',
 };
 
 /** Whether a tile may be mended that has this fault. */

@@ -11,5 +11,7 @@ loop-field-init c =
       numbered = fields_numbered c.args.payload.now;
       few = omega (arith, split_function_count c.args.payload.now);
       bytes = refl;
-      told = refl;
+      changes = refl;
+      cause = refl;
+      left = refl;
     })

@@ -11,5 +11,7 @@ loop-field-init c =
       numbered = fields_numbered c.args.bytes.now;
       few = omega (arith, split_function_count c.args.bytes.now);
       bytes = refl;
-      told = refl;
+      changes = refl;
+      cause = refl;
+      left = refl;
     })

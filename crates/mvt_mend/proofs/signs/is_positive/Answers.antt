@@ -1,7 +1,0 @@
-use Rattle.std.proofs.Common.{rules}
-use Rattle.mvt_mend.specs.Signs.{is_positive}
-use Rattle.mvt_mend.proofs.signs.is_positive.Goals as goal
-
-pub returns : goal.returns
-unfolding is_positive
-returns c = search rules

@@ -1,9 +1,0 @@
-use Rattle.std.proofs.Common.{◌≡◌, ◌≤◌, length, reverse}
-use Rattle.mvt_mend.specs.Turning.{past}
-use Rattle.mvt_mend.proofs.turning.opened.Given as goal
-
-abbrev pub invariant-loop-first : goal.invariant-loop-first
-invariant-loop-first l = (length l.open ≤ length l.points) × (past l.first (reverse l.open) ≡ past l.first (reverse l.points))
-
-abbrev pub decreases-loop-first : goal.decreases-loop-first
-decreases-loop-first l = length l.open

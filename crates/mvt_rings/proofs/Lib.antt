@@ -1,0 +1,22 @@
+pub mod RingLaws
+mod TurningLemmas
+mod NestingLemmas
+mod HomesLemmas
+mod TotalLemmas
+mod HomeIndexLemmas
+mod JoinedLemmas
+mod ToldRingsLemmas
+mod RingsStayLemmas
+mod TourLemmas
+mod CrossedLemmas
+mod EvenOddLemmas
+mod OriginLemmas
+mod IndexLemmas
+mod TurnedSignLemmas
+mod TreeLemmas
+mod FixedLemmas
+mod OuterLemmas
+mod PolygonLemmas
+mod SignsSayLemmas
+mod BandLemmas
+mod LargerLemmas

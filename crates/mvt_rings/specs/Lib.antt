@@ -1,0 +1,15 @@
+pub mod Signs
+pub mod Repeats
+pub mod Turning
+pub mod Boxes
+pub mod Nesting
+pub mod Placing
+pub mod Rings
+pub mod Holding
+pub mod Homes
+pub mod Steps
+pub mod Mending
+pub mod Counting
+pub mod Origins
+pub mod EvenOdd
+pub mod Bands

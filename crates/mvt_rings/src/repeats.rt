@@ -1,0 +1,62 @@
+//! Points that repeat the one before them (section 4.3.3.2), and last points that repeat the first.
+ghost use Rattle.std.specs.Prelude.{◌≡◌, reverse, IfOk};
+ghost use Rattle.mvt_rings.specs.Repeats.{is_same as are_at_one_place, without_repeats as apart, past, opened as the_opened};
+
+use mvt_base::Items;
+use mvt_geometry::Point;
+use std::alloc::{AllocError, Global};
+
+/// Whether two points are at one place.
+#[inline]
+pub(crate) fn is_same(p: Point, q: Point) -> bool
+    ensures { result ≡ are_at_one_place p q }
+{
+    p.x == q.x && p.y == q.y
+}
+
+/// A part without the points that equal the one before them.
+pub(crate) fn without_repeats(alloc: Global, points: &[Point]) -> Result<Items<Point>, AllocError>
+    ensures { IfOk result (λ r. r ≡ apart points.now) }
+{
+    let mut kept = Vec::with_capacity(alloc, points.len())?;
+    let [first, others @ ..] = points else {
+        return Ok(Items::new(kept));
+    };
+    kept.push(*first)?;
+    let mut before = *first;
+    for point in others {
+        if !is_same(before, *point) {
+            kept.push(*point)?;
+            before = *point;
+        }
+    }
+    Ok(Items::new(kept))
+}
+
+/// The points without those at the end that are at one place with the first.
+pub(crate) fn open_end(first: Point, points: &[Point]) -> &[Point]
+    ensures { reverse result.now ≡ past first (reverse points.now) }
+{
+    let mut open = points;
+    while !open.is_empty() {
+        let end = open.len() - 1;
+        if !is_same(first, open[end]) {
+            break;
+        }
+        open = &open[..end];
+    }
+    open
+}
+
+/// A ring without last points that equal its first.
+pub(crate) fn opened(alloc: Global, ring: &[Point]) -> Result<Items<Point>, AllocError>
+    ensures { IfOk result (λ r. r ≡ the_opened ring.now) }
+{
+    let mut points = Vec::with_capacity(alloc, ring.len())?;
+    let [first, others @ ..] = ring else {
+        return Ok(Items::new(points));
+    };
+    points.push(*first)?;
+    points.extend_from_slice(open_end(*first, others))?;
+    Ok(Items::new(points))
+}
