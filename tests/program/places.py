@@ -21,6 +21,8 @@ TOP = Path(__file__).resolve().parents[2]
 LIMIT = 1 << 26
 LAYER, FEATURE, VALUE, NAME, ID, TAGS, GEOMETRY = 3, 2, 4, 1, 1, 2, 4
 LINE = re.compile(r"layer (\S+) feature (\S+) at (\d+): (\d+) \w+\n")
+# What a terminal obeys, and JSON leaves as it is: DEL, the controls of C1, and what turns a line round.
+OBEYED = re.compile(r"[\x7f-\x9f\u061c\u200e\u200f\u202a-\u202e\u2066-\u2069]")
 # What inputs are that are no tiles and have a mark, zlib and MBTiles apart: the place of the mark, and the mark.
 MARKS = [
     ("Gzip", 0, b"\x1f\x8b"),
@@ -315,7 +317,8 @@ def holders_line(fault, place):
     """The line of the layer and the feature."""
     line = f"layer {fault.layer}"
     if place.name is not None:
-        line += " " + json.dumps(place.name.decode("utf-8", "replace"), ensure_ascii=False)
+        quoted = json.dumps(place.name.decode("utf-8", "replace"), ensure_ascii=False)
+        line += " " + OBEYED.sub(lambda found: f"\\u{ord(found[0]):04x}", quoted)
     if fault.feature is not None:
         line += f", feature {fault.feature}"
     return line if place.id is None else f"{line}, id {place.id}"

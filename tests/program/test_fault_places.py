@@ -8,6 +8,7 @@ from pathlib import Path
 
 import places
 import pytest
+from wire import field
 
 TOP = Path(__file__).resolve().parents[2]
 TILES = TOP / "fixtures" / "tiles"
@@ -36,6 +37,16 @@ def test_broken(run, path):
     content = path.read_bytes()
     why, cause = failure(run, gzip.decompress(content) if path.suffix == ".gz" else content)
     assert cause and not why
+
+
+def test_names_that_terminals_obey(run):
+    """DEL, the controls of C1 and what turns a line round are spelled, as JSON spells what it has to; others aren't."""
+    name = "\x1b[2J\x7f\x80\u009b2J\u009f\u00a0\u061c\u200d\u200e\u202a\u202e\u2066\u2069\u206a\u00e9"
+    line = field(3, 2) + field(4, bytes([9, 4, 4, 10, 0, 0]))
+    tile = field(3, field(15, 2) + field(1, name.encode()) + field(2, line))
+    told = r"\u001b[2J\u007f\u0080\u009b2J\u009f" + "\u00a0" + r"\u061c" + "\u200d" + r"\u200e\u202a\u202e\u2066\u2069" + "\u206a\u00e9"
+    assert run("explain", tile=tile).output.decode().split("\n")[0] == f'layer 0 "{told}", feature 0'
+    assert failure(run, tile) == (None, "ZeroSegment")
 
 
 @pytest.mark.parametrize("name", places.NO_TILES)

@@ -11,13 +11,14 @@ use Rattle.mvt_places.specs.declared.target.Target.{Target}
 use Rattle.mvt_places.specs.declared.target.Target.TheVariants as at
 use Rattle.mvt_places.specs.Places.{target_of, layer_name_at, feature_id_at, place_at}
 use Rattle.mvt_places.specs.Sentences.{sentence_for}
+use Rattle.mvt_places.specs.Shown.{hex, shown}
 
 -- ---- the layer and the feature: `layer 2 "water", feature 12, id 77`
 
--- a name as JSON; bytes that are no UTF-8 are shown by U+FFFD
+-- a name as JSON, in which what a terminal obeys is spelled too; bytes that are no UTF-8 are shown by U+FFFD
 abbrev pub name_text : Option (List ℕ) → List ℕ
 name_text None = []
-name_text (Some name) = codes " " ++ quoted (utf8_lossy name)
+name_text (Some name) = codes " " ++ shown (quoted (utf8_lossy name))
 
 -- a number behind a word, where there is one
 abbrev pub told : List ℕ → Option ℕ → List ℕ
@@ -45,13 +46,6 @@ value_in (Err cause) = None
 
 abbrev pub value_text : List ℕ → List ℕ
 value_text bytes = told (codes ": ") (value_in (number_at bytes))
-
--- a digit of base 16
-abbrev pub hex_digit : ℕ → ℕ
-hex_digit n = if nat_lt n 10 then 48 + n else 87 + n
-
-abbrev pub hex : ℕ → List ℕ
-hex b = hex_digit (b / 16) ∷ hex_digit (b % 16) ∷ []
 
 -- the first byte of a tag, and what it says where it is the whole tag
 unfoldable pub tag_text : ℕ → List ℕ

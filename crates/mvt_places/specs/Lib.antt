@@ -5,4 +5,5 @@ pub mod Messages
 pub mod Pens
 pub mod Places
 pub mod Sentences
+pub mod Shown
 pub mod Spans

@@ -4,11 +4,12 @@ ghost use Rattle.std.specs.Option.{option_copied};
 ghost use Rattle.mvt_wire.specs.Fronts.{number_at};
 ghost use Rattle.mvt_places.specs.Messages.{span};
 ghost use Rattle.mvt_places.specs.Explanations as spec;
-ghost use Rattle.mvt_places.specs.Explanations.{byte_text, bytes_text, explanation, explanation_by, first_tag_text, hex, hex_digit, holders_line, name_text, numbered, place_line, row_text, rows_text, tag_text, told, value_text, what_text, where_text};
+ghost use Rattle.mvt_places.specs.Explanations.{byte_text, bytes_text, explanation, explanation_by, first_tag_text, holders_line, name_text, numbered, place_line, row_text, rows_text, tag_text, told, value_text, what_text, where_text};
 
 use crate::locating::locate;
 use crate::place::Place;
 use crate::sentences::sentence;
+use crate::shown::{push_hex, push_shown};
 use crate::span::Span;
 use crate::target::{Target, target_of};
 use mvt_base::LIMIT;
@@ -75,7 +76,7 @@ fn push_holders(
     text.push_str("\n")
 }
 
-/// Appends a name as JSON.
+/// Appends a name as JSON, of which a terminal obeys nothing.
 fn push_name(alloc: Global, text: &mut String, name: Option<&[u8]>) -> Result<(), AllocError>
     ensures { OnOk result (string_bytes text.new
         ≡ string_bytes text.old ++ name_text (option_copied name.entry)) }
@@ -84,7 +85,9 @@ fn push_name(alloc: Global, text: &mut String, name: Option<&[u8]>) -> Result<()
         return Ok(());
     };
     text.push_str(" ")?;
-    push_quoted(text, &String::from_utf8_lossy(alloc, name)?)
+    let mut quoted = String::new(alloc);
+    push_quoted(&mut quoted, &String::from_utf8_lossy(alloc, name)?)?;
+    push_shown(text, &quoted)
 }
 
 /// Appends a number after a word, if there is one.
@@ -214,25 +217,6 @@ fn push_tag(text: &mut String, byte: u8) -> Result<(), AllocError>
     let number = byte / 8;
     let wire_type = byte % 8;
     write!(text, ": field {number}, wire type {wire_type}")
-}
-
-fn push_hex(text: &mut String, byte: u8) -> Result<(), AllocError>
-    ensures { OnOk result (string_bytes text.new ≡ string_bytes text.old ++ hex byte) }
-{
-    text.push(digit(byte / 16))?;
-    text.push(digit(byte % 16))
-}
-
-fn digit(value: u8) -> char
-    requires { value < 16 }
-    ensures { result ≡ hex_digit value }
-{
-    let code = if value < 10 {
-        b'0' + value
-    } else {
-        b'a' + (value - 10)
-    };
-    char::from(code)
 }
 
 /// Appends the rows of the bytes round a place.

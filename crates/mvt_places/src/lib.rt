@@ -15,6 +15,7 @@ mod pen;
 mod place;
 mod plain_text;
 mod sentences;
+mod shown;
 mod span;
 mod target;
 
