@@ -7,6 +7,7 @@ import unittest
 from collections import Counter
 from contextlib import closing
 from pathlib import Path
+from unittest.mock import patch
 
 import archives
 from common import EVIDENCE, FOUND, TOP, Case, at_places, audit, example_tiles, json, make_mbtiles, make_tree, packings, rows
@@ -172,7 +173,16 @@ class Tiles(unittest.TestCase):
 
         judge = Judge()
         judge._look = look
-        self.assertEqual(judge(SEVERAL), Said("unread", len(SEVERAL), notes="out of memory"))
+        with patch("mvt.judge", look):
+            self.assertEqual(judge(SEVERAL), Said("unread", len(SEVERAL), notes="out of memory"))
+
+    def test_memory_for_no_more_than_judging(self):
+        def look(tile):
+            raise MemoryError
+
+        judge = Judge()
+        judge._look = look
+        self.assertEqual(judge(SEVERAL), Said("accepted", len(SEVERAL), notes="what else is to be said of it takes too much memory"))
 
 
 class Blocks(Case):

@@ -120,8 +120,8 @@ class Calls(Served):
         layer = bytes.fromhex("78020a0161") + gone + kept + gone
         said, _ = parts_of(self.serving.call("mend", bytes([0x1A, len(layer)]) + layer)[8:])
         said = json.loads(said)
-        self.assertEqual(said["lines"], ["layer 0 feature 0: FeatureLeftOut", "layer 0 feature 1: RepeatedPoint 0 count 1",
-                                         "layer 0 feature 2: FeatureLeftOut"])
+        self.assertEqual(said["lines"], ["layer 0 feature 0: FeatureLeftOut count 2", "layer 0 feature 1: RepeatedPoint 0 count 1",
+                                         "layer 0 feature 2: FeatureLeftOut count 2"])
         self.assertEqual([each["after"] and each["after"]["parts"] for each in said["features"]], [None, [[[2, 3], [2, 7]]], None])
         self.assertEqual(said["features"][0]["before"]["parts"], [[[2, 2], [2, 2]]])
 
