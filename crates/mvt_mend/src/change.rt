@@ -16,7 +16,7 @@ pub enum Change {
     /// A layer, a feature that is left out, and how many points it had.
     FeatureLeftOut(usize, usize, usize),
     /// A layer, a feature, a ring, and its index among those that stay, where that isn't the number
-    /// of rings before it that stay: an interior ring stands behind the exterior ring that holds it.
+    /// of rings before it that stay: an interior ring stands behind the exterior one that holds it.
     MovedRing(usize, usize, usize, usize),
 }
 

@@ -95,7 +95,8 @@ fn lines_outcome(alloc: Global, integers: &[u32]) -> Result<Outcome, AllocError>
 fn rings_outcome(alloc: Global, integers: &[u32], left: &mut u64) -> Result<Outcome, Ended>
     ensures is { IfOk result (λ r. r ≡ the_outcome_as Kind.Polygon true integers.now) }
     ensures left { OnOk result (left.new + geometry_steps Kind.Polygon integers.now ≡ left.old) }
-    ensures ended { IfErr result (λ e. IsEnded e left.old (geometry_steps Kind.Polygon integers.now)) }
+    ensures ended { IfErr result
+        (λ e. IsEnded e left.old (geometry_steps Kind.Polygon integers.now)) }
 {
     if is_faultless(Kind::Polygon, integers) {
         return Ok(Outcome::Stays);

@@ -94,7 +94,8 @@ fn push_crossing(
     inner: usize,
 ) -> Result<(), AllocError>
     ensures { OnOk result (string_bytes text.new ≡ string_bytes text.old
-        ++ unmended_line (Unmended.RingsCross layer feature (record { outer = outer; inner = inner }))) }
+        ++ unmended_line
+        (Unmended.RingsCross layer feature (record { outer = outer; inner = inner }))) }
 {
     writeln!(
         text,

@@ -55,17 +55,17 @@ pub fn rings_come_from_rings()
         → (n : ℕ) → count_by (λ k. k.index == n) kept ≤ 1 }
 {}
 
-/// Where rings are told, their signs say even-odd: positive area where an even number of others hold
-/// a ring, negative area where an odd number do; then the exterior ring before it is the least of
-/// these.
+/// Where rings are told, their signs say even-odd: positive area where an even number of others
+/// hold a ring, negative area where an odd number do; then the exterior ring before it is the least
+/// of these.
 pub fn signs_say_even_odd()
     ensures { (rings : List (List Point)) (kept : List Kept)
         → begins_negative (kept_from 3 0 rings) ≡ true → mended_rings rings ≡ Ok kept
         → (h : Holders) × (holders_of (rings_from 0 rings) ≡ Ok h) × AreEvenOdd h None kept }
 {}
 
-/// Of the edges of a ring those that are not level with a box tell nothing of a spot that is, also of
-/// one that is up to a unit above or below it.
+/// Of the edges of a ring those that are not level with a box tell nothing of a spot that is, also
+/// of one that is up to a unit above or below it.
 pub fn band_tells()
     ensures { (bounds : Bounds) (spot : Spot) → IsLevel bounds spot → (edges : List Edge)
         → lies_at 2 spot (filter (is_level_with bounds) edges) ≡ lies_at 2 spot edges }
