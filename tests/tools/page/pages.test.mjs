@@ -122,7 +122,7 @@ await onPage('a tile that breaks another rule too is not mended, and others have
   await page.until("document.querySelector('.mending [role=status]').textContent.startsWith('It can')");
   const why = await page.value(textOf('.mending [role=status]'));
   await look(page, [`${tiles}/broken/10-NoName.mvt`]);
-  return same([why, await page.value(textOf('.mending'))], ['It can’t be mended: it breaks another rule too.', '']);
+  return same([why, await page.value(textOf('.mending'))], ['It can’t be mended: it breaks another rule too, or its rings cross.', '']);
 });
 
 await onPage('buttons save the canonical bytes and the JSON', {}, async (page) => {
