@@ -1,8 +1,7 @@
 -- What was told when no bytes are left.
 use Rattle.std.proofs.Common.{◌≡◌, ℕ, ◌+◌, ◌*◌, ◌^◌, ◌<◌, Bool, true, false, ◌||◌, List, [], ◌∷◌, ◌++◌, length, ℤ, pos, ◌≤ℤ◌, refl, sym, ap, subst, ◌∙◌, arith, append-nil}
 use Rattle.std.specs.Int.Signed.{lt_z}
-use Rattle.std.proofs.lemmas.List.{length_push, nil_from_length}
-use Rattle.mvt_wire.specs.Packed.{ArePacked}
+use Rattle.std.proofs.lemmas.List.{length_push}
 use Rattle.mvt_geometry.specs.declared.shape.Point.{Point}
 use Rattle.mvt_geometry.specs.declared.shape.Polygon.{Polygon}
 use Rattle.mvt_geometry.specs.declared.shape.Geometry.TheVariants.{Points, Lines, Polygons}
@@ -22,20 +21,22 @@ use Rattle.mvt_geometry.proofs.ValidLemmas.{drawn_valid}
 use Rattle.mvt_geometry.proofs.WholeLemmas.{rings_valid}
 
 -- nothing is left behind
-spells_all : {bytes ints after : List ℕ} → SpellsFront bytes ints after → length after ≡ 0 → ArePacked bytes ints
-spells_all {bytes} {ints} {after} f none = subst (ArePacked bytes) (append-nil ints) (f.joins [] (nil_from_length after none))
+spells_all : {I : Type 0} {Are : I → List ℕ → Type 0} {bytes after : I} {ints : List ℕ} → SpellsFront Are bytes ints after → Are after [] → Are bytes ints
+spells_all {I} {Are} {bytes} {after} {ints} f none = subst (Are bytes) (append-nil ints) (f.joins [] none)
 
 -- the points of a feature
-pub points_told : {bytes pairs after : List ℕ} {count : ℕ} {end : Point} {area : ℤ} {ps : List Point} → 0 < count → count < 2 ^ 29
-    → SpellsFront bytes ((1 + 8 * count) ∷ []) pairs → ArePairs false origin pairs after count end area ps → length after ≡ 0
-    → ArePacked bytes (drawn (Points ps)) × IsValid (Points ps)
-points_told {bytes} {pairs} {after} {count} {end} {area} {ps} some few command p none = (
-  subst (λ n. ArePacked bytes ((1 + 8 * n) ∷ path_from origin ps)) (sym p.long) (spells_all (spells_both command p.spelled) none),
+pub points_told : {I : Type 0} {Are : I → List ℕ → Type 0} {bytes pairs after : I} {count : ℕ} {end : Point} {area : ℤ} {ps : List Point}
+    → 0 < count → count < 2 ^ 29
+    → SpellsFront Are bytes ((1 + 8 * count) ∷ []) pairs → ArePairs Are false origin pairs after count end area ps → Are after []
+    → Are bytes (drawn (Points ps)) × IsValid (Points ps)
+points_told {I} {Are} {bytes} {pairs} {after} {count} {end} {area} {ps} some few command p none = (
+  subst (λ n. Are bytes ((1 + 8 * n) ∷ path_from origin ps)) (sym p.long) (spells_all (spells_both command p.spelled) none),
   drawn_valid (Points ps) (omega (arith, p.long, some), omega (arith, p.long, few), p.is),
 )
 
 -- lines or rings, one after the other
-pub none_in_front : (least : ℕ) (close bytes : List ℕ) → 0 < length bytes → AreInFront least close bytes bytes origin []
+pub none_in_front : {I : Type 0} {Are : I → List ℕ → Type 0} {size : I → ℕ} (least : ℕ) (close : List ℕ) (bytes : I) → 0 < size bytes
+    → AreInFront Are size least close bytes bytes origin []
 none_in_front least close bytes some = record {
   are = record { are = tt; steps = tt };
   spelled = spells_none bytes;
@@ -43,32 +44,33 @@ none_in_front least close bytes some = record {
   some = omega (arith, some);
 }
 
-pub one_more_in_front : {least n : ℕ} {close bytes rest after : List ℕ} {c end : Point} {area : ℤ} {same : Bool}
-    {lines : List (List Point)} {line : List Point} → AreInFront least close bytes rest c lines
-    → IsLine least close c rest after n end area same line
-    → AreInFront least close bytes after end (lines ++ line ∷ [])
-one_more_in_front {least} {n} {close} {bytes} {rest} {after} {c} {end} {area} {same} {lines} {line} f l = record {
+pub one_more_in_front : {I : Type 0} {Are : I → List ℕ → Type 0} {size : I → ℕ} {least n : ℕ} {close : List ℕ} {bytes rest after : I}
+    {c end : Point} {area : ℤ} {same : Bool} {lines : List (List Point)} {line : List Point}
+    → AreInFront Are size least close bytes rest c lines → IsLine Are least close c rest after n end area same line
+    → AreInFront Are size least close bytes after end (lines ++ line ∷ [])
+one_more_in_front {I} {Are} {size} {least} {n} {close} {bytes} {rest} {after} {c} {end} {area} {same} {lines} {line} f l = record {
   are = (stroke_follows least lines line).1 (f.are, subst (λ q. IsStrokeFrom least q line) f.cursor_is l.is);
   spelled =
-      subst (λ ns. SpellsFront bytes ns after)
+      subst (λ ns. SpellsFront Are bytes ns after)
       (ap (λ q. strokes close origin lines ++ stroke close q line) f.cursor_is ∙ sym (strokes_follow close lines line))
       (spells_both f.spelled l.spelled);
   cursor_is = l.end_is ∙ ap (λ q. last_of q line) f.cursor_is ∙ sym (end_follows lines line);
   some = omega (arith, length_push lines line);
 }
 
-pub lines_told : {bytes rest : List ℕ} {c : Point} {lines : List (List Point)} → AreInFront 2 [] bytes rest c lines → length rest ≡ 0
-    → ArePacked bytes (drawn (Lines lines)) × IsValid (Lines lines)
-lines_told f none = (spells_all f.spelled none, (omega (arith, f.some, none), f.are.are, f.are.steps))
+pub lines_told : {I : Type 0} {Are : I → List ℕ → Type 0} {size : I → ℕ} {bytes rest : I} {c : Point} {lines : List (List Point)}
+    → AreInFront Are size 2 [] bytes rest c lines → size rest ≡ 0 → Are rest []
+    → Are bytes (drawn (Lines lines)) × IsValid (Lines lines)
+lines_told f none done = (spells_all f.spelled done, (omega (arith, f.some, none), f.are.are, f.are.steps))
 
-pub rings_told : {bytes rest : List ℕ} {c : Point} {rings : List (List Point)} → AreInFront 3 (15 ∷ []) bytes rest c rings
-    → HasFineFirst rings → length rest ≡ 0
-    → (polygons : List Polygon) × ArePacked bytes (drawn (Polygons polygons)) × IsValid (Polygons polygons)
+pub rings_told : {I : Type 0} {Are : I → List ℕ → Type 0} {size : I → ℕ} {bytes rest : I} {c : Point} {rings : List (List Point)}
+    → AreInFront Are size 3 (15 ∷ []) bytes rest c rings → HasFineFirst rings → size rest ≡ 0 → Are rest []
+    → (polygons : List Polygon) × Are bytes (drawn (Polygons polygons)) × IsValid (Polygons polygons)
     × (parts_of_rings true rings ≡ parts_of (Polygons polygons))
-rings_told {bytes} {rest} {c} {rings} f fine none =
+rings_told {I} {Are} {size} {bytes} {rest} {c} {rings} f fine none done =
     let made = rings_valid rings f.are.are f.are.steps (omega (arith, f.some, none)) fine in (
       made.0,
-      subst (λ rs. ArePacked bytes (strokes (15 ∷ []) origin rs)) made.1 (spells_all f.spelled none),
+      subst (λ rs. Are bytes (strokes (15 ∷ []) origin rs)) made.1 (spells_all f.spelled done),
       made.2,
       ap (parts_of_rings true) made.1 ∙ grouped_parts made.0 made.2.0,
     )

@@ -8,6 +8,7 @@
 mod area;
 mod command;
 mod fault;
+mod integers;
 mod judging;
 pub mod laws;
 mod packed;

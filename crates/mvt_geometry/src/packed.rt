@@ -6,14 +6,15 @@ ghost use Rattle.mvt_geometry.specs.declared.shape.Point.{Point};
 ghost use Rattle.mvt_geometry.specs.declared.shape.Kind.TheVariants as kinds;
 ghost use Rattle.mvt_geometry.specs.Commands.{id_of};
 ghost use Rattle.mvt_geometry.specs.Visiting.{Part, HasDrawnPacked};
+ghost use Rattle.mvt_geometry.specs.Inner.Telling.{HasDrawnFrom};
 ghost use Rattle.mvt_geometry.specs.Inner.Telling.{SpellsFront, WasTold, IsPair, ArePairs, IsHead, IsLine};
 
 use crate::area::cross;
 use crate::command::Command;
+use crate::integers::{Integers, Packed};
 use crate::judging::{ORIGIN, moved_by, step_fault};
 use crate::shape::{Kind, Point};
 use crate::visiting::{GeometryVisitor, Ring, begins_polygon, is_same};
-use mvt_wire::packed_front;
 use std::alloc::AllocError;
 
 /// Passes the geometry of this type that the integers of a packed field draw to a visitor, and
@@ -36,26 +37,43 @@ pub fn draw_packed<V: GeometryVisitor>(
     ensures told { IfOk result (λ drawn. OnFalse drawn ((parts : List Part) × (begun : List Point)
         × V.has_parts visitor.old parts begun visitor.new)) }
 {
-    if bytes.is_empty() {
+    tell_integers(visitor, kind, Packed { bytes })
+}
+
+/// The same for integers from anywhere.
+pub(crate) fn tell_integers<V: GeometryVisitor, I: Integers>(
+    visitor: &mut V,
+    kind: Kind,
+    integers: I,
+) -> Result<bool, AllocError>
+    ensures drawn { IfOk result (λ drawn. IsTrue drawn
+        → HasDrawnFrom I.are V.has_parts V.has_integers visitor.old visitor.new kind integers) }
+    ensures told { IfOk result (λ drawn. OnFalse drawn ((parts : List Part) × (begun : List Point)
+        × V.has_parts visitor.old parts begun visitor.new)) }
+{
+    if integers.is_done() {
         return Ok(false);
     }
     match kind {
         Kind::Unknown => Ok(false),
-        Kind::Point => tell_points(visitor, bytes),
-        Kind::LineString => tell_lines(visitor, bytes),
-        Kind::Polygon => tell_polygons(visitor, bytes),
+        Kind::Point => tell_points(visitor, integers),
+        Kind::LineString => tell_lines(visitor, integers),
+        Kind::Polygon => tell_polygons(visitor, integers),
     }
 }
 
 #[inline(never)]
-fn tell_points<V: GeometryVisitor>(visitor: &mut V, bytes: &[u8]) -> Result<bool, AllocError>
+fn tell_points<V: GeometryVisitor, I: Integers>(
+    visitor: &mut V,
+    integers: I,
+) -> Result<bool, AllocError>
     ensures drawn { IfOk result (λ drawn. IsTrue drawn
-        → HasDrawnPacked V.has_parts V.has_integers visitor.old visitor.new kinds.Point
-        bytes.now) }
+        → HasDrawnFrom I.are V.has_parts V.has_integers visitor.old visitor.new kinds.Point
+        integers) }
     ensures told { IfOk result (λ drawn. OnFalse drawn ((parts : List Part) × (begun : List Point)
         × V.has_parts visitor.old parts begun visitor.new)) }
 {
-    let Some((count, pairs)) = command_front(Command::MoveTo, bytes) else {
+    let Some((count, pairs)) = command_front(Command::MoveTo, integers) else {
         return Ok(false);
     };
     if count == 0 {
@@ -64,7 +82,7 @@ fn tell_points<V: GeometryVisitor>(visitor: &mut V, bytes: &[u8]) -> Result<bool
     let Some(path) = tell_path(visitor, ORIGIN, count, false, pairs)? else {
         return Ok(false);
     };
-    if !path.after.is_empty() {
+    if !path.after.is_done() {
         return Ok(false);
     }
     visitor.end_part(count, None)?;
@@ -72,17 +90,20 @@ fn tell_points<V: GeometryVisitor>(visitor: &mut V, bytes: &[u8]) -> Result<bool
 }
 
 #[inline(never)]
-fn tell_lines<V: GeometryVisitor>(visitor: &mut V, bytes: &[u8]) -> Result<bool, AllocError>
-    requires { 0 < length bytes.now }
+fn tell_lines<V: GeometryVisitor, I: Integers>(
+    visitor: &mut V,
+    integers: I,
+) -> Result<bool, AllocError>
+    requires { 0 < I.size integers }
     ensures drawn { IfOk result (λ drawn. IsTrue drawn
-        → HasDrawnPacked V.has_parts V.has_integers visitor.old visitor.new kinds.LineString
-        bytes.now) }
+        → HasDrawnFrom I.are V.has_parts V.has_integers visitor.old visitor.new kinds.LineString
+        integers) }
     ensures told { IfOk result (λ drawn. OnFalse drawn ((parts : List Part) × (begun : List Point)
         × V.has_parts visitor.old parts begun visitor.new)) }
 {
     let mut cursor = ORIGIN;
-    let mut rest = bytes;
-    while !rest.is_empty() {
+    let mut rest = integers;
+    while !rest.is_done() {
         let Some(line) = tell_line(visitor, cursor, 2, rest)? else {
             return Ok(false);
         };
@@ -94,18 +115,21 @@ fn tell_lines<V: GeometryVisitor>(visitor: &mut V, bytes: &[u8]) -> Result<bool,
 }
 
 #[inline(never)]
-fn tell_polygons<V: GeometryVisitor>(visitor: &mut V, bytes: &[u8]) -> Result<bool, AllocError>
-    requires { 0 < length bytes.now }
+fn tell_polygons<V: GeometryVisitor, I: Integers>(
+    visitor: &mut V,
+    integers: I,
+) -> Result<bool, AllocError>
+    requires { 0 < I.size integers }
     ensures drawn { IfOk result (λ drawn. IsTrue drawn
-        → HasDrawnPacked V.has_parts V.has_integers visitor.old visitor.new kinds.Polygon
-        bytes.now) }
+        → HasDrawnFrom I.are V.has_parts V.has_integers visitor.old visitor.new kinds.Polygon
+        integers) }
     ensures told { IfOk result (λ drawn. OnFalse drawn ((parts : List Part) × (begun : List Point)
         × V.has_parts visitor.old parts begun visitor.new)) }
 {
     let mut is_first = true;
     let mut cursor = ORIGIN;
-    let mut rest = bytes;
-    while !rest.is_empty() {
+    let mut rest = integers;
+    while !rest.is_done() {
         let Some(ring) = tell_ring(visitor, cursor, rest)? else {
             return Ok(false);
         };
@@ -135,60 +159,73 @@ fn may_stand(is_first: bool, area: i128) -> bool
 
 /// How many points a line has that was passed on, the last of them, twice the area of the ring that
 /// it would be, whether that ring's last point is its first, and the bytes after it.
-#[derive(Clone, Copy, Debug)]
-struct Line<'a> {
+#[derive(Drop)]
+struct Line<I> {
     points: usize,
     end: Point,
     area: i128,
     is_closed: bool,
-    after: &'a [u8],
+    after: I,
 }
 
 /// Tells the ring in front, whose end is a ClosePath.
 #[inline(always)]
-fn tell_ring<'a, V: GeometryVisitor>(
+fn tell_ring<V: GeometryVisitor, I: Integers>(
     visitor: &mut V,
     from: Point,
-    bytes: &'a [u8],
-) -> Result<Option<Line<'a>>, AllocError>
+    integers: I,
+) -> Result<Option<Line<I>>, AllocError>
     ensures further { IfOk result (λ told. IfSome told (λ ring.
-        length ring.after.now < length bytes.now)) }
+        I.size ring.after < I.size integers)) }
     ensures line { IfOk result (λ told. IfSome told (λ r. (points : List Point)
-        × IsLine 3 (15 ∷ []) from bytes.now r.after.now r.points r.end r.area r.is_closed points
+        × IsLine I.are 3 (15 ∷ []) from integers r.after r.points r.end r.area r.is_closed points
         × WasTold V.has_parts visitor.old points visitor.new)) }
     ensures told { OnOk result ((points : List Point)
         × WasTold V.has_parts visitor.old points visitor.new) }
 {
-    let Some(ring) = tell_line(visitor, from, 3, bytes)? else {
+    let Some(ring) = tell_line(visitor, from, 3, integers)? else {
         return Ok(None);
     };
-    let Some((count, after)) = command_front(Command::ClosePath, ring.after) else {
+    let Line {
+        points,
+        end,
+        area,
+        is_closed,
+        after,
+    } = ring;
+    let Some((count, behind)) = command_front(Command::ClosePath, after) else {
         return Ok(None);
     };
     if count != 1 {
         return Ok(None);
     }
-    Ok(Some(Line { after, ..ring }))
+    Ok(Some(Line {
+        points,
+        end,
+        area,
+        is_closed,
+        after: behind,
+    }))
 }
 
 /// Passes on the line in front that has at least this many points: one pair after a MoveTo, and
 /// those after a LineTo.
 #[inline(always)]
-fn tell_line<'a, V: GeometryVisitor>(
+fn tell_line<V: GeometryVisitor, I: Integers>(
     visitor: &mut V,
     from: Point,
     least: usize,
-    bytes: &'a [u8],
-) -> Result<Option<Line<'a>>, AllocError>
+    integers: I,
+) -> Result<Option<Line<I>>, AllocError>
     ensures further { IfOk result (λ told. IfSome told (λ line.
-        length line.after.now < length bytes.now)) }
+        I.size line.after < I.size integers)) }
     ensures line { IfOk result (λ told. IfSome told (λ r. (points : List Point)
-        × IsLine least [] from bytes.now r.after.now r.points r.end r.area r.is_closed points
+        × IsLine I.are least [] from integers r.after r.points r.end r.area r.is_closed points
         × WasTold V.has_parts visitor.old points visitor.new)) }
     ensures told { OnOk result ((points : List Point)
         × WasTold V.has_parts visitor.old points visitor.new) }
 {
-    let Some(head) = line_front(from, least, bytes) else {
+    let Some(head) = line_front(from, least, integers) else {
         return Ok(None);
     };
     let first = head.point;
@@ -206,21 +243,21 @@ fn tell_line<'a, V: GeometryVisitor>(
 }
 
 /// The first point of a line, how many pairs lead to the others, and the bytes of these.
-#[derive(Clone, Copy, Debug)]
-struct Head<'a> {
+#[derive(Drop)]
+struct Head<I> {
     point: Point,
     count: usize,
-    after: &'a [u8],
+    after: I,
 }
 
 /// The commands in front of a line that has at least this many points.
 #[inline(always)]
-fn line_front<'a>(from: Point, least: usize, bytes: &'a [u8]) -> Option<Head<'a>>
+fn line_front<I: Integers>(from: Point, least: usize, integers: I) -> Option<Head<I>>
     ensures head { IfSome result (λ head.
-        IsHead least from head.point head.count bytes.now head.after.now) }
-    ensures further { IfSome result (λ head. length head.after.now < length bytes.now) }
+        IsHead I.are least from head.point head.count integers head.after) }
+    ensures further { IfSome result (λ head. I.size head.after < I.size integers) }
 {
-    let (points, pair) = command_front(Command::MoveTo, bytes)?;
+    let (points, pair) = command_front(Command::MoveTo, integers)?;
     let (point, after) = point_front(from, false, pair)?;
     let (count, after) = command_front(Command::LineTo, after)?;
     if points != 1 || count + 1 < least {
@@ -235,13 +272,13 @@ fn line_front<'a>(from: Point, least: usize, bytes: &'a [u8]) -> Option<Head<'a>
 
 /// The count of this command in front, and the bytes after it.
 #[inline(always)]
-fn command_front(command: Command, bytes: &[u8]) -> Option<(usize, &[u8])>
+fn command_front<I: Integers>(command: Command, integers: I) -> Option<(usize, I)>
     ensures spelled { IfSome result (λ found.
-        SpellsFront bytes.now ((id_of command + 8 * found.0) ∷ []) found.1.now) }
+        SpellsFront I.are integers ((id_of command + 8 * found.0) ∷ []) found.1) }
     ensures few { IfSome result (λ found. found.0 < 2 ^ 29) }
-    ensures further { IfSome result (λ found. length found.1.now < length bytes.now) }
+    ensures further { IfSome result (λ found. I.size found.1 < I.size integers) }
 {
-    let (integer, after) = packed_front(bytes)?;
+    let (integer, after) = integers.front()?;
     if integer % 8 != command.id() {
         return None;
     }
@@ -250,34 +287,34 @@ fn command_front(command: Command, bytes: &[u8]) -> Option<(usize, &[u8])>
 
 /// The end of a path that was passed on, what its edges add to twice an area, and the bytes after
 /// it.
-#[derive(Clone, Copy, Debug)]
-struct Path<'a> {
+#[derive(Drop)]
+struct Path<I> {
     end: Point,
     area: i128,
-    after: &'a [u8],
+    after: I,
 }
 
 /// Passes on the points that this many pairs in front lead to.
 #[inline(always)]
-fn tell_path<'a, V: GeometryVisitor>(
+fn tell_path<V: GeometryVisitor, I: Integers>(
     visitor: &mut V,
     from: Point,
     count: usize,
     is_line: bool,
-    bytes: &'a [u8],
-) -> Result<Option<Path<'a>>, AllocError>
+    integers: I,
+) -> Result<Option<Path<I>>, AllocError>
     requires { count < 2 ^ 29 }
     ensures further { IfOk result (λ told. IfSome told (λ path.
-        length path.after.now ≤ length bytes.now)) }
+        I.size path.after ≤ I.size integers)) }
     ensures path { IfOk result (λ told. IfSome told (λ r. (points : List Point)
-        × ArePairs is_line from bytes.now r.after.now count r.end r.area points
+        × ArePairs I.are is_line from integers r.after count r.end r.area points
         × WasTold V.has_parts visitor.old points visitor.new)) }
     ensures told { OnOk result ((points : List Point)
         × WasTold V.has_parts visitor.old points visitor.new) }
 {
     let mut cursor = from;
     let mut area = 0;
-    let mut rest = bytes;
+    let mut rest = integers;
     let mut left = count;
     while left > 0 {
         let Some((point, after)) = point_front(cursor, is_line, rest) else {
@@ -298,12 +335,12 @@ fn tell_path<'a, V: GeometryVisitor>(
 
 /// The point that the pair in front leads to, and the bytes after it.
 #[inline(always)]
-fn point_front(from: Point, is_line: bool, bytes: &[u8]) -> Option<(Point, &[u8])>
-    ensures pair { IfSome result (λ found. IsPair is_line from found.0 bytes.now found.1.now) }
-    ensures further { IfSome result (λ found. length found.1.now < length bytes.now) }
+fn point_front<I: Integers>(from: Point, is_line: bool, integers: I) -> Option<(Point, I)>
+    ensures pair { IfSome result (λ found. IsPair I.are is_line from found.0 integers found.1) }
+    ensures further { IfSome result (λ found. I.size found.1 < I.size integers) }
 {
-    let (dx, after) = packed_front(bytes)?;
-    let (dy, after) = packed_front(after)?;
+    let (dx, behind) = integers.front()?;
+    let (dy, after) = behind.front()?;
     if step_fault(is_line, 0, from, dx, dy).is_some() {
         return None;
     }

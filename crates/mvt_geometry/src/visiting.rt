@@ -2,24 +2,17 @@
 ghost use Rattle.std.specs.Prelude.{◌≡◌, ◌≢◌, pos, ◌||◌, ◌<◌, ◌≤◌, ◌*◌, ◌^◌, ℕ, true, List, [], ◌∷◌, ◌++◌, length, map, Some, IfOk, IfErr, OnOk};
 ghost use Rattle.mvt_geometry.specs.declared.shape.Point.{Point};
 ghost use Rattle.mvt_geometry.specs.declared.shape.Geometry.{Geometry};
-ghost use Rattle.std.specs.Int.RustNames.{unsigned_abs};
 ghost use Rattle.std.specs.Int.Signed.{lt_z};
-ghost use Rattle.mvt_geometry.specs.Shape.{origin, last_of};
-ghost use Rattle.mvt_geometry.specs.Area.{area2};
-ghost use Rattle.mvt_geometry.specs.Rings.{are_same, is_closed};
-ghost use Rattle.mvt_geometry.specs.Drawing.{path_from, Draws};
-ghost use Rattle.mvt_geometry.specs.Commands.{pairs_of, moved, positions};
+ghost use Rattle.mvt_geometry.specs.Rings.{are_same};
+ghost use Rattle.mvt_geometry.specs.Drawing.{Draws};
 ghost use Rattle.mvt_geometry.specs.Table.{geometry_fault};
 ghost use Rattle.mvt_geometry.specs.Reports.{Reports};
-ghost use Rattle.mvt_geometry.specs.Visiting.{Part, plain, EndsAs, HasDrawn};
-ghost use Rattle.mvt_geometry.specs.Inner.Building.{ArePlaces, IsFront, SpellLines, SpellRings};
-ghost use Rattle.mvt_geometry.specs.Inner.Judging.{edges};
-ghost use Rattle.mvt_geometry.specs.Inner.Grouping.{parts_of_rings};
+ghost use Rattle.mvt_geometry.specs.Visiting.{Part, EndsAs, HasDrawn};
 
-use crate::area::cross;
-use crate::command::Command;
 use crate::fault::GeometryError;
-use crate::judging::{ORIGIN, judge, moved_by};
+use crate::integers::Listed;
+use crate::judging::judge;
+use crate::packed::tell_integers;
 use crate::shape::{Kind, Point};
 use std::alloc::AllocError;
 
@@ -120,66 +113,17 @@ pub fn draw_geometry<V: GeometryVisitor>(
 
 /// The same for integers that draw a geometry.
 fn draw<V: GeometryVisitor>(visitor: &mut V, kind: Kind, integers: &[u32]) -> Result<(), AllocError>
-    requires { (g : Geometry) × Draws kind integers.now g }
     ensures { (g : Geometry) → Draws kind integers.now g
         → OnOk result (HasDrawn V.has_parts V.has_integers visitor.old visitor.new g) }
 {
-    match kind {
-        Kind::Unknown => visitor.visit_integers(integers),
-        Kind::Point => draw_points(visitor, &integers[1..]),
-        Kind::LineString => draw_lines(visitor, integers),
-        Kind::Polygon => draw_polygons(visitor, integers),
+    if kind == Kind::Unknown {
+        return visitor.visit_integers(integers);
     }
-}
-
-fn draw_points<V: GeometryVisitor>(visitor: &mut V, parameters: &[u32]) -> Result<(), AllocError>
-    requires { (points : List Point) × ArePlaces points
-        × (parameters.now ≡ path_from origin points) }
-    ensures { (points : List Point) → parameters.now ≡ path_from origin points
-        → OnOk result (V.has_parts visitor.old (plain points ∷ []) [] visitor.new) }
-{
-    let count = parameters.len() / 2;
-    draw_path(visitor, ORIGIN, parameters)?;
-    visitor.end_part(count, None)
-}
-
-fn draw_lines<V: GeometryVisitor>(visitor: &mut V, integers: &[u32]) -> Result<(), AllocError>
-    requires { (lines : List (List Point)) × SpellLines [] origin integers.now lines }
-    ensures { (lines : List (List Point)) → SpellLines [] origin integers.now lines
-        → OnOk result (V.has_parts visitor.old (map plain lines) [] visitor.new) }
-{
-    let mut cursor = ORIGIN;
-    let mut rest = integers;
-    while !rest.is_empty() {
-        let line = draw_line(visitor, cursor, rest)?;
-        visitor.end_part(line.points, None)?;
-        cursor = line.end;
-        rest = line.after;
+    if tell_integers(visitor, kind, Listed { integers })? {
+        return Ok(());
     }
-    Ok(())
-}
-
-fn draw_polygons<V: GeometryVisitor>(visitor: &mut V, integers: &[u32]) -> Result<(), AllocError>
-    requires { (rings : List (List Point)) × SpellRings integers.now rings }
-    ensures { (rings : List (List Point)) → SpellRings integers.now rings
-        → OnOk result (V.has_parts visitor.old (parts_of_rings true rings) [] visitor.new) }
-{
-    let mut is_first = true;
-    let mut cursor = ORIGIN;
-    let mut rest = integers;
-    while !rest.is_empty() {
-        let ring = draw_line(visitor, cursor, rest)?;
-        let known = Ring {
-            exterior: begins_polygon(is_first, ring.area),
-            twice_area: ring.area,
-            is_closed: ring.is_closed,
-        };
-        visitor.end_part(ring.points, Some(known))?;
-        is_first = false;
-        cursor = ring.end;
-        rest = &ring.after[1..];
-    }
-    Ok(())
+    // Integers that draw a geometry are told whole.
+    Err(AllocError)
 }
 
 /// Whether a ring of this area, doubled, begins a polygon (4.3.4.4).
@@ -190,83 +134,9 @@ pub(crate) fn begins_polygon(is_first: bool, area: i128) -> bool
     is_first || area > 0
 }
 
-/// How many points a line has, the last of them, twice the area of the ring that it would be,
-/// whether that ring's last point is its first, and what stands after its pairs.
-#[derive(Clone, Copy, Debug)]
-struct Line<'a> {
-    points: usize,
-    end: Point,
-    area: i128,
-    is_closed: bool,
-    after: &'a [u32],
-}
-
-/// Tells the points of the line in front of the integers: one pair after a MoveTo, and those after
-/// a LineTo.
-#[inline(always)]
-fn draw_line<'a, V: GeometryVisitor>(
-    visitor: &mut V,
-    from: Point,
-    integers: &'a [u32],
-) -> Result<Line<'a>, AllocError>
-    requires { (l : List Point) × (more : List ℕ) × IsFront from integers.now l more }
-    ensures further { IfOk result (λ r. length r.after.now < length integers.now) }
-    ensures drawn { (l : List Point) (more : List ℕ) (start : V) (parts : List Part)
-        → IsFront from integers.now l more
-        → V.has_parts start parts [] visitor.old
-        → OnOk result (V.has_parts start parts l visitor.new) }
-    ensures line { (l : List Point) (more : List ℕ) → IsFront from integers.now l more
-        → IfOk result (λ r. (r.points ≡ length l) × (r.end ≡ last_of from l)
-        × (r.area ≡ area2 l) × (r.is_closed ≡ is_closed l) × (r.after.now ≡ more)) }
-{
-    let (head, tail) = integers.split_at(4);
-    let count = Command::count_in(head[3]) as usize;
-    let (pairs, after) = tail.split_at(2 * count);
-    let (first, _) = draw_path(visitor, from, &head[1..3])?;
-    let (end, path) = draw_path(visitor, first, pairs)?;
-    Ok(Line {
-        points: count + 1,
-        end,
-        area: path + cross(end, first),
-        is_closed: is_same(first, end),
-        after,
-    })
-}
-
 #[inline(always)]
 pub(crate) fn is_same(p: Point, q: Point) -> bool
     ensures { result ≡ are_same (Some p) (Some q) }
 {
     p.x == q.x && p.y == q.y
-}
-
-/// Tells the points that pairs lead to, and answers the last, and what the edges to it add to twice
-/// the area.
-#[inline(always)]
-fn draw_path<V: GeometryVisitor>(
-    visitor: &mut V,
-    from: Point,
-    parameters: &[u32],
-) -> Result<(Point, i128), AllocError>
-    requires places { ArePlaces (positions from (pairs_of parameters.now)) }
-    requires few { length parameters.now < 2 ^ 64 }
-    ensures drawn { (start : V) (parts : List Part) (begun : List Point)
-        → V.has_parts start parts begun visitor.old
-        → OnOk result (V.has_parts start parts
-        (begun ++ positions from (pairs_of parameters.now)) visitor.new) }
-    ensures last { IfOk result (λ r. r.0 ≡ moved from (pairs_of parameters.now)) }
-    ensures area { IfOk result (λ r. r.1 ≡ edges from (positions from (pairs_of parameters.now))) }
-    ensures small { IfOk result (λ r. unsigned_abs r.1 ≤ length parameters.now * 2 ^ 62) }
-{
-    let mut cursor = from;
-    let mut area = 0;
-    let mut rest = parameters;
-    while let [dx, dy, others @ ..] = rest {
-        let next = moved_by(cursor, *dx, *dy);
-        visitor.visit_point(next)?;
-        area += cross(cursor, next);
-        cursor = next;
-        rest = others;
-    }
-    Ok((cursor, area))
 }

@@ -13,15 +13,6 @@ use Rattle.mvt_geometry.specs.Inner.Judging.{edges}
 abbrev pub ArePlaces : List Point → Type 0
 ArePlaces points = AllByRecursion IsPlace points
 
--- a walk over the pairs of a path has come to c; its edges so far add this to twice the area
-pub record Passed (from : Point) (parameters rest : List ℕ) (c : Point) (area : ℤ) (done : List Pair) : Type 0 where
-  pub split : pairs_of parameters ≡ done ++ pairs_of rest
-  pub cursor_is : c ≡ moved from done
-  pub places : ArePlaces (positions c (pairs_of rest))
-  pub used : length parameters ≡ 2 * length done + length rest
-  pub area_is : area ≡ edges from (positions from done)
-  pub small : unsigned_abs area ≤ length done * 2 ^ 63
-
 -- a line stands in front
 pub record IsFront (from : Point) (ints : List ℕ) (line : List Point) (more : List ℕ) : Type 0 where
   pub is : IsStroke 2 line

@@ -4,10 +4,10 @@ use Rattle.mvt_geometry.proofs.TellingLemmas.{spells_both}
 use Rattle.mvt_geometry.proofs.packed.line_front.Goals as goal
 
 pub returns-clause-head : goal.returns-clause-head
-returns-clause-head c =
+returns-clause-head g c =
     let pair = c.in_ok-point.ensures.pair in
     let one =
-    subst (λ n. SpellsFront c.args.bytes.now ((1 + 8 * n) ∷ []) c.in_ok-points.pair.now) c.if-points-ne1.false
+    subst (λ n. SpellsFront g.I.Integers.are c.args.integers ((1 + 8 * n) ∷ []) c.in_ok-points.pair) c.if-points-ne1.false
     c.in_ok-points.ensures.spelled in
     record {
       step = pair.step;

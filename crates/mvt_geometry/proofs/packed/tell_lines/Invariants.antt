@@ -4,10 +4,10 @@ use Rattle.mvt_geometry.specs.Visiting.{plain}
 use Rattle.mvt_geometry.specs.Inner.Telling.{AreInFront}
 use Rattle.mvt_geometry.proofs.packed.tell_lines.Given as goal
 
-abbrev pub invariant-loop-rest : goal.invariant-loop-rest
-invariant-loop-rest g l =
-    (lines : List (List Point)) × AreInFront 2 [] l.bytes l.rest l.cursor lines
+abbrev pub invariant-loop-cursor : goal.invariant-loop-cursor
+invariant-loop-cursor g l =
+    (lines : List (List Point)) × AreInFront g.I.Integers.are g.I.Integers.size 2 [] l.fn.integers l.rest l.cursor lines
     × g.V.GeometryVisitor.has_parts l.initial.visitor (map plain lines) [] l.visitor
 
-abbrev pub decreases-loop-rest : goal.decreases-loop-rest
-decreases-loop-rest g l = length l.rest
+abbrev pub decreases-loop-cursor : goal.decreases-loop-cursor
+decreases-loop-cursor g l = g.I.Integers.size l.rest

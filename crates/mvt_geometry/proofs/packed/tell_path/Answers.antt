@@ -7,7 +7,7 @@ use Rattle.mvt_geometry.proofs.packed.tell_path.Goals as goal
 
 pub loop-left-init : goal.loop-left-init
 loop-left-init g c =
-    ([], 0, omega arith, omega arith, no_pairs c.args.is_line c.args.from c.args.bytes.now, told_none c.args.visitor.now)
+    ([], 0, omega arith, omega arith, no_pairs c.args.is_line c.args.from c.args.integers, told_none c.args.visitor.now)
 
 pub returns-in_default-clause-told : goal.returns-in_default-clause-told
 returns-in_default-clause-told g c = let inv = c.loop-left.invariant in (inv.0, inv.5)
@@ -42,7 +42,7 @@ returns-clause-path g c =
     let inv = c.loop-left.invariant in
     let all : inv.1 ≡ c.args.count = omega (arith, inv.2, c.loop-left-test.false) in (
       inv.0,
-      subst (λ n. ArePairs c.args.is_line c.args.from c.args.bytes.now c.loop-left.rest.now n c.loop-left.cursor
+      subst (λ n. ArePairs g.I.Integers.are c.args.is_line c.args.from c.args.integers c.loop-left.rest n c.loop-left.cursor
           (to_z w128 c.loop-left.area-bits) inv.0) all inv.4,
       inv.5,
     )

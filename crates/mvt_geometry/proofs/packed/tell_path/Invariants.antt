@@ -5,8 +5,8 @@ use Rattle.mvt_geometry.proofs.packed.tell_path.Given as goal
 
 abbrev pub invariant-loop-left : goal.invariant-loop-left
 invariant-loop-left g l =
-    (points : List Point) × (done : ℕ) × (done + l.left ≡ l.count) × (length l.rest ≤ length l.bytes)
-    × ArePairs l.is_line l.fn.from l.bytes l.rest done l.cursor l.area points
+    (points : List Point) × (done : ℕ) × (done + l.left ≡ l.count) × (g.I.Integers.size l.rest ≤ g.I.Integers.size l.fn.integers)
+    × ArePairs g.I.Integers.are l.is_line l.fn.from l.fn.integers l.rest done l.cursor l.area points
     × WasTold g.V.GeometryVisitor.has_parts l.initial.visitor points l.visitor
 
 abbrev pub decreases-loop-left : goal.decreases-loop-left

@@ -17,8 +17,8 @@ returns-in_default-2-clause-told g c =
     let path = c.in_ok-path.ensures.told in
     ([], path.0, path.1.told start [] [] (g.met.V.GeometryVisitor.begins start))
 
-pub returns-then-not-is_empty-clause-told : goal.returns-then-not-is_empty-clause-told
-returns-then-not-is_empty-clause-told g c =
+pub returns-then-not-is_done-clause-told : goal.returns-then-not-is_done-clause-told
+returns-then-not-is_done-clause-told g c =
     let start = c.args.visitor.now in
     let path = c.in_ok-path.ensures.told in
     ([], path.0, path.1.told start [] [] (g.met.V.GeometryVisitor.begins start))
@@ -29,8 +29,9 @@ returns-clause-drawn g c = λ yes.
     let path = rw c.in-Some-2.is at c.in_ok-path.ensures.path in
     let points = path.0 in
     let some : 0 < c.in-Some.count = omega (arith, c.if-count-eq0.false) in
-    let none : length c.in-Some-2.path.after.now ≡ 0 = search rules in
-    let told = points_told some c.in-Some.ensures.few c.in-Some.ensures.spelled path.1 none in
+    let none : g.I.Integers.size c.in-Some-2.path.after ≡ 0 = search rules in
+    let done = g.met.I.Integers.none c.in-Some-2.path.after none in
+    let told = points_told some c.in-Some.ensures.few c.in-Some.ensures.spelled path.1 done in
     let begun = path.2.told start [] [] (g.met.V.GeometryVisitor.begins start) in (
       drawn (Points points),
       told.0,

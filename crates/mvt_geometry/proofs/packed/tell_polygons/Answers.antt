@@ -8,10 +8,10 @@ use Rattle.mvt_geometry.specs.Visiting.{ring_part}
 use Rattle.mvt_geometry.proofs.ToldLemmas.{none_in_front, one_more_in_front, rings_told, ring_parts-push, first_no_more, first_stays_fine}
 use Rattle.mvt_geometry.proofs.packed.tell_polygons.Goals as goal
 
-pub loop-rest-init : goal.loop-rest-init
-loop-rest-init g c = (
+pub loop-cursor-init : goal.loop-cursor-init
+loop-cursor-init g c = (
   [],
-  none_in_front 3 (15 ∷ []) c.args.bytes.now c.requires,
+  none_in_front 3 (15 ∷ []) c.args.integers c.requires,
   tt,
   refl,
   g.met.V.GeometryVisitor.begins c.args.visitor.now,
@@ -19,25 +19,25 @@ loop-rest-init g c = (
 
 pub returns-in_default-clause-told : goal.returns-in_default-clause-told
 returns-in_default-clause-told g c =
-    let inv = c.loop-rest.invariant in
+    let inv = c.loop-cursor.invariant in
     let ring = c.in_ok-ring.ensures.told in
     let done = parts_of_rings true inv.0 in
     (done, ring.0, ring.1.told c.args.visitor.now done [] inv.4)
 
 pub returns-then-not-may_stand-clause-told : goal.returns-then-not-may_stand-clause-told
 returns-then-not-may_stand-clause-told g c =
-    let inv = c.loop-rest.invariant in
+    let inv = c.loop-cursor.invariant in
     let ring = c.in_ok-ring.ensures.told in
     let done = parts_of_rings true inv.0 in
     (done, ring.0, ring.1.told c.args.visitor.now done [] inv.4)
 
-pub loop-rest-smaller : goal.loop-rest-smaller
-loop-rest-smaller g c = rw c.in-Some.is at c.in_ok-ring.ensures.further
+pub loop-cursor-smaller : goal.loop-cursor-smaller
+loop-cursor-smaller g c = rw c.in-Some.is at c.in_ok-ring.ensures.further
 
-pub loop-rest-preserved : goal.loop-rest-preserved
-loop-rest-preserved g c =
+pub loop-cursor-preserved : goal.loop-cursor-preserved
+loop-cursor-preserved g c =
     let start = c.args.visitor.now in
-    let inv = c.loop-rest.invariant in
+    let inv = c.loop-cursor.invariant in
     let rings = inv.0 in
     let done = parts_of_rings true rings in
     let ring = rw c.in-Some.is at c.in_ok-ring.ensures.line in
@@ -59,13 +59,14 @@ loop-rest-preserved g c =
 
 pub returns-clause-drawn : goal.returns-clause-drawn
 returns-clause-drawn g c = λ yes.
-    let inv = c.loop-rest.invariant in
-    let none : length c.loop-rest.rest.now ≡ 0 = search rules in
-    let told = rings_told inv.1 inv.2 none in
+    let inv = c.loop-cursor.invariant in
+    let none : g.I.Integers.size c.loop-cursor.rest ≡ 0 = search rules in
+    let done = g.met.I.Integers.none c.loop-cursor.rest none in
+    let told = rings_told inv.1 inv.2 none done in
     let polygons = told.0 in (
       drawn (Polygons polygons),
       told.1,
       Polygons polygons,
       record { same_kind = refl; valid = told.2; spelled = refl },
-      subst (λ parts. g.V.GeometryVisitor.has_parts c.args.visitor.now parts [] c.loop-rest.visitor) told.3 inv.4,
+      subst (λ parts. g.V.GeometryVisitor.has_parts c.args.visitor.now parts [] c.loop-cursor.visitor) told.3 inv.4,
     )

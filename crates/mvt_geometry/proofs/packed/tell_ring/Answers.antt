@@ -9,6 +9,6 @@ returns-clause-line g c =
     let line = rw c.in-Some.is at c.in_ok-ring.ensures.line in
     let close = c.in-Some-command_front in
     let one =
-    subst (λ n. SpellsFront c.in-Some.ring.after.now ((7 + 8 * n) ∷ []) close.after.now) c.if-count-ne1.false close.ensures.spelled in
+    subst (λ n. SpellsFront g.I.Integers.are c.in-Some.ring.after ((7 + 8 * n) ∷ []) close.behind) c.if-count-ne1.false close.ensures.spelled in
     let same : to_z w128 (of_z w128 c.in-Some.ring.area) ≡ c.in-Some.ring.area = search rules in
     (line.0, rw same (ring_there line.1 one), line.2)

@@ -2,12 +2,6 @@ use Rattle.std.proofs.Common.{arith}
 use Rattle.mvt_geometry.proofs.WholeLemmas.{faultless_drawn, all_small}
 use Rattle.mvt_geometry.proofs.visiting.draw_geometry.Goals as goal
 
-pub draw-requires : goal.draw-requires
-draw-requires g c =
-    let ints = c.args.integers.now in
-    let small = all_small ints (λ i. let fits = c.type_inv.integers i in omega (arith, fits)) in
-    faultless_drawn c.args.kind ints small c.in_ok-judge.ensures.ok
-
 pub returns-in_err-draw-clause-memory : goal.returns-in_err-draw-clause-memory
 returns-in_err-draw-clause-memory g c = λ memory.
     let ints = c.args.integers.now in
