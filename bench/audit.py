@@ -4,7 +4,7 @@ MVT [COUNT..]
 
 TILES is a folder that evidence/producers/gdal and tilemaker filled. Of its tiles those of 700 to 1,400 bytes are taken in
 turn, compressed by gzip, as caches are, until there are so many: 100,000 and 1,000,000 where no count is given. MVT is the
-program. The modules mvt and mvt_tools have to be found (PYTHONPATH). Peaks of memory are of the client and of its largest
+program. The modules libmvt and mvt_tools have to be found (PYTHONPATH). Peaks of memory are of the client and of its largest
 worker, seen twenty times a second. The microseconds of a processor are those that the client says it took from the first
 tile to the last, and those of all workers together, without what they take for one tile. A client feeds as many workers as
 take the time that a tile takes it itself."""
@@ -21,7 +21,7 @@ from contextlib import closing
 from pathlib import Path
 
 import psutil
-from mvt._mvt import looked_at, survey_rows
+from libmvt._mvt import looked_at, survey_rows
 from mvt_tools.audit import engine, processes
 from mvt_tools.audit.judging import judged_part
 from mvt_tools.audit.results import Block, Results

@@ -4,7 +4,7 @@
 The hosts are network namespaces of this machine. Each has a device whose packets go through this program, which hands each
 on after the delay, in milliseconds. With --lose a host is gone for good as soon as some parts are done: no packet of it
 or to it is handed on any more. Prints what the run says, and whether each tile stands in the results once. Wants root and
-iproute2. The modules mvt and mvt_tools have to be found (PYTHONPATH)."""
+iproute2. The modules libmvt and mvt_tools have to be found (PYTHONPATH)."""
 
 import argparse
 import ctypes

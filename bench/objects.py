@@ -1,12 +1,12 @@
 #!/usr/bin/env python3
-"""Tiles as objects of Python, by the module mvt, by protobuf's module, by GDAL, and as shapes of shapely; as columns of numpy
+"""Tiles as objects of Python, by the module libmvt, by protobuf's module, by GDAL, and as shapes of shapely; as columns of numpy
 and geopandas; and as GeoJSON.
 
     objects.py [ROUNDS]
 
 Three made tiles: points with attributes, long lines, and polygons with holes. Each way gives features with attributes and
 lists of points; the ways take turns, and the best of the rounds counts, in a processor's time. Before, what is read is
-compared. A way whose module isn't there is left out. Wants `mvt`; protobuf is python3-protobuf, GDAL python3-gdal, shapely
+compared. A way whose module isn't there is left out. Wants `libmvt`; protobuf is python3-protobuf, GDAL python3-gdal, shapely
 python3-shapely, geopandas python3-geopandas.
 """
 
@@ -16,7 +16,7 @@ import sys
 import time
 from importlib.util import find_spec
 
-import mvt
+import libmvt
 
 WAYS = {}
 KINDS = ("unknown", "points", "lines", "polygons")
@@ -34,7 +34,7 @@ def way(does, name):
 def tiles():
     """Made tiles, by name."""
     points = [
-        mvt.Feature(
+        libmvt.Feature(
             n,
             {"name": "place %d" % n, "height": n % 900 / 4, "floors": n % 30, "open": n % 3 == 0},
             "points",
@@ -43,7 +43,7 @@ def tiles():
         for n in range(40000)
     ]
     lines = [
-        mvt.Feature(n, {"class": "road %d" % (n % 9)}, "lines", [[(i * 7 % 4096 + n, i + n) for i in range(2000)]])
+        libmvt.Feature(n, {"class": "road %d" % (n % 9)}, "lines", [[(i * 7 % 4096 + n, i + n) for i in range(2000)]])
         for n in range(500)
     ]
 
@@ -55,41 +55,41 @@ def tiles():
         return [ring(x, y, 200, 1), ring(x, y, 100, -1)]
 
     polygons = [
-        mvt.Feature(n, {"kind": "lake", "area": float(n)}, "polygons", [lake(300 + n % 4000, 300 + n // 4)])
+        libmvt.Feature(n, {"kind": "lake", "area": float(n)}, "polygons", [lake(300 + n % 4000, 300 + n // 4)])
         for n in range(5000)
     ]
     made = {"points": points, "lines": lines, "polygons": polygons}
-    return {name: mvt.write(mvt.Tile([mvt.Layer("a", 4096, features)])) for name, features in made.items()}
+    return {name: libmvt.write(libmvt.Tile([libmvt.Layer("a", 4096, features)])) for name, features in made.items()}
 
 
-@way("read", "mvt.read")
+@way("read", "libmvt.read")
 def read(tile, _):
-    [layer] = mvt.read(tile).layers
+    [layer] = libmvt.read(tile).layers
     return [(feature.id, feature.attributes, feature.geometry) for feature in layer.features]
 
 
-@way("write", "mvt.write")
+@way("write", "libmvt.write")
 def write(_, tile):
-    return mvt.write(tile)
+    return libmvt.write(tile)
 
 
-@way("geojson", "mvt.to_geojson")
+@way("geojson", "libmvt.to_geojson")
 def geojson(tile, _):
-    return json.dumps(mvt.to_geojson(tile, *PLACE)).encode()
+    return json.dumps(libmvt.to_geojson(tile, *PLACE)).encode()
 
 
 if find_spec("numpy") is not None:
 
     @way("columns", "Rows.frame")
     def columns(tile, _):
-        return mvt.rows(tile).frame("a")
+        return libmvt.rows(tile).frame("a")
 
 
 if find_spec("geopandas") is not None:
 
-    @way("columns", "mvt.to_geopandas")
+    @way("columns", "libmvt.to_geopandas")
     def frame(tile, _):
-        return mvt.to_geopandas(mvt.rows(tile).frame("a"), *PLACE)
+        return libmvt.to_geopandas(libmvt.rows(tile).frame("a"), *PLACE)
 
 
 def protobuf_tile():
@@ -250,9 +250,9 @@ try:
         "polygons": lambda held: MultiPolygon([(rings[0], rings[1:]) for rings in held]),
     }
 
-    @way("read", "mvt.read and shapely")
+    @way("read", "libmvt.read and shapely")
     def read_shapely(tile, _):
-        [layer] = mvt.read(tile).layers
+        [layer] = libmvt.read(tile).layers
         return [(feature.id, feature.attributes, SHAPES[feature.kind](feature.geometry)) for feature in layer.features]
 except ImportError:
     pass
@@ -262,7 +262,7 @@ def check(tile, held):
     """The ways that give lists of points agree."""
     if ("read", "protobuf") in WAYS:
         assert read_protobuf(tile, held) == read(tile, held)
-        assert mvt.rewrite(write_protobuf(tile, held)) == mvt.rewrite(tile)
+        assert libmvt.rewrite(write_protobuf(tile, held)) == libmvt.rewrite(tile)
     if ("read", "GDAL") in WAYS:
         assert len(read_gdal(tile, held)) == len(read(tile, held))
 
@@ -270,7 +270,7 @@ def check(tile, held):
 def main():
     rounds = int(sys.argv[1]) if len(sys.argv) > 1 else 5
     for name, tile in tiles().items():
-        held = mvt.read(tile)
+        held = libmvt.read(tile)
         check(tile, held)
         best = dict.fromkeys(WAYS, math.inf)
         for _ in range(rounds):

@@ -1,7 +1,7 @@
 #!/usr/bin/env python3
 """Makes the completion of the commands in Python for bash, zsh and fish, of their parsers: complete.py FOLDER
 
-In the folder COMMAND.bash, _COMMAND and COMMAND.fish. Wants the modules mvt and mvt_tools."""
+In the folder COMMAND.bash, _COMMAND and COMMAND.fish. Wants the modules libmvt and mvt_tools."""
 
 import importlib
 import re

@@ -2,7 +2,7 @@
 """Makes the manual pages of what the documents, mvt.h and the commands' help say: manual.py FOLDER [PAGE..]
 
 Without a name it makes all. mvt.3 is made of mvt.h alone; the others want pandoc, and those of the commands in Python the
-modules mvt and mvt_tools."""
+modules libmvt and mvt_tools."""
 
 import os
 import re

@@ -16,7 +16,7 @@ import sys
 from collections import Counter
 from pathlib import Path
 
-import mvt
+import libmvt
 from osgeo import gdal
 
 gdal.UseExceptions()
@@ -107,8 +107,8 @@ def compare(folder):
         place = tuple(map(int, PLACE.search(str(path)).groups()))
         content = path.read_bytes()
         try:
-            table = mvt.rows(content)
-        except mvt.Refused:
+            table = libmvt.rows(content)
+        except libmvt.Refused:
             refused += 1
             continue
         if max(place[1:]) >> place[0]:
@@ -116,7 +116,7 @@ def compare(folder):
             continue
         tiles += 1
         for layer in (table.text(row.name) for row in table.layers if row.version == 2):
-            ours = mvt.to_geojson(table, *place, layers=[layer], decimals=9)["features"]
+            ours = libmvt.to_geojson(table, *place, layers=[layer], decimals=9)["features"]
             theirs = by_gdal(content, place, layer)
             features += len(ours)
             kinds = ["features"] if len(ours) != len(theirs) else map(difference, theirs, ours)

@@ -2,6 +2,6 @@ module example.com/guard
 
 go 1.19
 
-require huranvi.example/mvt v0.0.0
+require huranvi.example/libmvt v0.0.0
 
-replace huranvi.example/mvt => ../../library/go
+replace huranvi.example/libmvt => ../../library/go

@@ -11,7 +11,7 @@ import (
 	"net/http"
 	"net/url"
 
-	"huranvi.example/mvt/guard"
+	"huranvi.example/libmvt/guard"
 )
 
 func main() {

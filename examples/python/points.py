@@ -11,8 +11,8 @@ import math
 import sys
 from typing import Dict, Iterable, Optional, Tuple
 
-import mvt
-from mvt.mercator import column_of, row_of
+import libmvt
+from libmvt.mercator import column_of, row_of
 
 EXTENT = 4096
 
@@ -23,7 +23,7 @@ def position(lon: float, lat: float, z: int, x: int, y: int) -> Tuple[int, int]:
     return math.floor(east * EXTENT), math.floor(south * EXTENT)
 
 
-def value_of(text: str) -> mvt.Value:
+def value_of(text: str) -> libmvt.Value:
     for number in (int, float):
         try:
             return number(text)
@@ -32,19 +32,19 @@ def value_of(text: str) -> mvt.Value:
     return text
 
 
-def feature_of(row: Dict[str, str], z: int, x: int, y: int) -> Optional[mvt.Feature]:
+def feature_of(row: Dict[str, str], z: int, x: int, y: int) -> Optional[libmvt.Feature]:
     """The feature of a line of the table, where it lies in the tile."""
     at = position(float(row.pop("lon")), float(row.pop("lat")), z, x, y)
     if not all(0 <= number < EXTENT for number in at):
         return None
     id = row.pop("id", "")
     attributes = {key: value_of(text) for key, text in row.items() if text != ""}
-    return mvt.Feature(int(id) if id else None, attributes, "points", [at])
+    return libmvt.Feature(int(id) if id else None, attributes, "points", [at])
 
 
-def tile_of(name: str, rows: Iterable[Dict[str, str]], z: int, x: int, y: int) -> mvt.Tile:
+def tile_of(name: str, rows: Iterable[Dict[str, str]], z: int, x: int, y: int) -> libmvt.Tile:
     features = [feature for row in rows if (feature := feature_of(row, z, x, y))]
-    return mvt.Tile([mvt.Layer(name, EXTENT, features)])
+    return libmvt.Tile([libmvt.Layer(name, EXTENT, features)])
 
 
 if __name__ == "__main__":
@@ -53,6 +53,6 @@ if __name__ == "__main__":
     name, *place = sys.argv[1:]
     tile = tile_of(name, csv.DictReader(sys.stdin), *map(int, place))
     try:
-        sys.stdout.buffer.write(mvt.write(tile))
-    except mvt.MvtError as why:
+        sys.stdout.buffer.write(libmvt.write(tile))
+    except libmvt.MvtError as why:
         sys.exit(f"points.py: {why}")

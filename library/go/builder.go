@@ -1,4 +1,4 @@
-package mvt
+package libmvt
 
 /*
 #include <mvt.h>
@@ -15,9 +15,9 @@ import (
 
 // Builder makes a tile step by step: begin a layer, begin a feature, add its tags and points, and finish.
 //
-//	builder := mvt.NewBuilder()
+//	builder := libmvt.NewBuilder()
 //	builder.Layer("places", 4096)
-//	builder.Feature(mvt.Points).ID(7).Tag("name", "Mill Pond").Tag("depth", 3.5).Point(25, 17)
+//	builder.Feature(libmvt.Points).ID(7).Tag("name", "Mill Pond").Tag("depth", 3.5).Point(25, 17)
 //	bytes, err := builder.Finish()
 //
 // After a call that the builder doesn't expect, or when memory runs out, each further call does nothing, and Finish says

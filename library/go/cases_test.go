@@ -1,4 +1,4 @@
-package mvt_test
+package libmvt_test
 
 import (
 	"bytes"
@@ -12,7 +12,7 @@ import (
 	"testing"
 	"testing/iotest"
 
-	"huranvi.example/mvt"
+	"huranvi.example/libmvt"
 )
 
 // told is what the program says of a tile, by key, with a line feed behind each line.
@@ -71,7 +71,7 @@ func cases(t testing.TB) []told {
 func TestEachCase(t *testing.T) {
 	for _, of := range cases(t) {
 		t.Run(of.name, func(t *testing.T) {
-			if err := mvt.Judge(of.tile); err != nil {
+			if err := libmvt.Judge(of.tile); err != nil {
 				refused(t, &of, err)
 			} else {
 				accepted(t, &of)
@@ -81,10 +81,10 @@ func TestEachCase(t *testing.T) {
 }
 
 // decoded is a tile in pieces, of which there aren't too many.
-func decoded(t *testing.T, tile []byte) *mvt.Tile {
+func decoded(t *testing.T, tile []byte) *libmvt.Tile {
 	t.Helper()
 	size := 1 + (len(tile)/100_000)<<10
-	decoder, err := mvt.NewDecoder()
+	decoder, err := libmvt.NewDecoder()
 	must(t, err, decoder)
 	for rest := tile; len(rest) > 0; {
 		count, err := decoder.Write(rest[:1+(len(rest)-1)%(7*size)])
@@ -95,7 +95,7 @@ func decoded(t *testing.T, tile []byte) *mvt.Tile {
 }
 
 func accepted(t *testing.T, of *told) {
-	calls := map[string]func([]byte) (string, error){"check": mvt.Report, "lint": mvt.Lint, "show": mvt.ToJSON, "draw": mvt.ToSVG}
+	calls := map[string]func([]byte) (string, error){"check": libmvt.Report, "lint": libmvt.Lint, "show": libmvt.ToJSON, "draw": libmvt.ToSVG}
 	for key, call := range calls {
 		text, err := call(of.tile)
 		if key == "show" || key == "draw" {
@@ -105,14 +105,14 @@ func accepted(t *testing.T, of *told) {
 	}
 	remarked(t, of)
 	wanted := string(of.bytes(t, "canonical"))
-	canonical, err := mvt.Rewrite(of.tile)
+	canonical, err := libmvt.Rewrite(of.tile)
 	same(t, "canonical", string(must(t, err, canonical)), wanted)
-	read, err := mvt.Read(of.tile)
+	read, err := libmvt.Read(of.tile)
 	written, wrong := must(t, err, read).Write()
 	same(t, "written", string(must(t, wrong, written)), wanted)
 	in := decoded(t, of.tile)
 	same(t, "in pieces", shown(in), shown(read))
-	mended, changes, err := mvt.Mend(of.tile)
+	mended, changes, err := libmvt.Mend(of.tile)
 	same(t, "mended", string(must(t, err, mended)), wanted)
 	same(t, "changes", len(changes), 0)
 	extracted(t, of)
@@ -128,10 +128,10 @@ func extracted(t *testing.T, of *told) {
 		if !has {
 			continue
 		}
-		alone, err := mvt.ReadLayer(of.tile, name)
+		alone, err := libmvt.ReadLayer(of.tile, name)
 		written, wrong := must(t, err, alone).Write()
 		same(t, name+" read", must(t, wrong, written), digits(t, wanted))
-		found, err := mvt.Extract(of.tile, name)
+		found, err := libmvt.Extract(of.tile, name)
 		same(t, name+" extracted", must(t, err, found), digits(t, wanted))
 		alone.Close()
 	}
@@ -140,18 +140,18 @@ func extracted(t *testing.T, of *told) {
 // remarked compares what is counted, noted and found with what the program prints.
 func remarked(t *testing.T, of *told) {
 	t.Helper()
-	survey, err := mvt.Survey(of.tile)
+	survey, err := libmvt.Survey(of.tile)
 	is := map[bool]string{true: "yes", false: "no"}[must(t, err, survey).IsCanonical]
 	first := fmt.Sprintf("ok layers %d features %d canonical %s", survey.Layers, survey.Features, is)
 	line, notes, _ := strings.Cut(of.said["check"], "\n")
 	same(t, "counts", first, line)
 	same(t, "notes", len(survey.Notes), strings.Count(notes, "\n"))
-	found, err := mvt.LintRows(of.tile)
+	found, err := libmvt.LintRows(of.tile)
 	same(t, "findings", len(must(t, err, found)), strings.Count(of.said["lint"], "\n"))
 }
 
 func refused(t *testing.T, of *told, err error) {
-	var fault *mvt.Refused
+	var fault *libmvt.Refused
 	if !errors.As(err, &fault) {
 		t.Fatal(err)
 	}
@@ -160,23 +160,23 @@ func refused(t *testing.T, of *told, err error) {
 	same(t, "place", fmt.Sprintf("%d %d %t\n", start, end, known), strings.TrimSuffix(of.said["place"], "\n")+" true\n")
 	same(t, "sentence", fault.Explanation+"\n", of.said["sentence"])
 	same(t, "text", err.Error(), fault.Line()+": "+fault.Explanation)
-	for _, call := range []func([]byte) (string, error){mvt.Report, mvt.Lint, mvt.ToJSON, mvt.ToSVG} {
+	for _, call := range []func([]byte) (string, error){libmvt.Report, libmvt.Lint, libmvt.ToJSON, libmvt.ToSVG} {
 		_, other := call(of.tile)
 		same(t, "another call", other, err)
 	}
-	_, other := mvt.Read(of.tile)
+	_, other := libmvt.Read(of.tile)
 	same(t, "Read", other, err)
-	_, other = mvt.Survey(of.tile)
+	_, other = libmvt.Survey(of.tile)
 	same(t, "Survey", other, err)
-	_, other = mvt.LintRows(of.tile)
+	_, other = libmvt.LintRows(of.tile)
 	same(t, "LintRows", other, err)
-	decoder, wrong := mvt.NewDecoder()
+	decoder, wrong := libmvt.NewDecoder()
 	_, told := io.Copy(must(t, wrong, decoder), iotest.HalfReader(bytes.NewReader(of.tile)))
 	_, other = decoder.Finish()
 	if told != nil {
 		same(t, "a decoder", told, other)
 	}
-	var last *mvt.Refused
+	var last *libmvt.Refused
 	same(t, "a decoder's fault", errors.As(other, &last), true)
 	same(t, "a decoder's line", last.Line(), fault.Line())
 	mended(t, of, err)
@@ -184,7 +184,7 @@ func refused(t *testing.T, of *told, err error) {
 
 func mended(t *testing.T, of *told, wanted error) {
 	t.Helper()
-	made, changes, err := mvt.Mend(of.tile)
+	made, changes, err := libmvt.Mend(of.tile)
 	if _, has := of.said["mended"]; !has {
 		same(t, "Mend", err, wanted)
 		return

@@ -1,4 +1,4 @@
-package mvt
+package libmvt
 
 /*
 #include <mvt.h>
@@ -14,7 +14,7 @@ import (
 // Decoder reads a tile that comes in pieces of any length. It is an io.Writer and an io.ReaderFrom, so that io.Copy fills
 // it:
 //
-//	decoder, err := mvt.NewDecoder()
+//	decoder, err := libmvt.NewDecoder()
 //	defer decoder.Close()
 //	_, err = decoder.ReadFrom(response.Body)
 //	tile, err := decoder.Finish()

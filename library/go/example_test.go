@@ -1,4 +1,4 @@
-package mvt_test
+package libmvt_test
 
 import (
 	"bytes"
@@ -6,15 +6,15 @@ import (
 	"fmt"
 	"log"
 
-	"huranvi.example/mvt"
+	"huranvi.example/libmvt"
 )
 
 func ExampleRead() {
-	made, err := mvt.NewBuilder().Layer("places", 4096).Feature(mvt.Points).Tag("name", "Mill Pond").Point(25, 17).Finish()
+	made, err := libmvt.NewBuilder().Layer("places", 4096).Feature(libmvt.Points).Tag("name", "Mill Pond").Point(25, 17).Finish()
 	if err != nil {
 		log.Fatal(err)
 	}
-	tile, err := mvt.Read(made)
+	tile, err := libmvt.Read(made)
 	if err != nil {
 		log.Fatal(err)
 	}
@@ -28,8 +28,8 @@ func ExampleRead() {
 }
 
 func ExampleJudge() {
-	err := mvt.Judge([]byte{0x1a, 2, 0x78, 2})
-	var refused *mvt.Refused
+	err := libmvt.Judge([]byte{0x1a, 2, 0x78, 2})
+	var refused *libmvt.Refused
 	if errors.As(err, &refused) {
 		fmt.Println(refused.Line())
 		fmt.Println(refused.Layer, refused.Name)
@@ -40,7 +40,7 @@ func ExampleJudge() {
 }
 
 func ExampleDecoder() {
-	decoder, err := mvt.NewDecoder()
+	decoder, err := libmvt.NewDecoder()
 	if err != nil {
 		log.Fatal(err)
 	}
@@ -58,11 +58,11 @@ func ExampleDecoder() {
 }
 
 func ExampleExtract() {
-	made, err := mvt.NewBuilder().Layer("a", 4096).Layer("b", 4096).Finish()
+	made, err := libmvt.NewBuilder().Layer("a", 4096).Layer("b", 4096).Finish()
 	if err != nil {
 		log.Fatal(err)
 	}
-	_, err = mvt.Extract(made, "b", "c")
+	_, err = libmvt.Extract(made, "b", "c")
 	fmt.Println(err)
 	// Output: no layer of version 2 has the name "c"
 }

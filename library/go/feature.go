@@ -1,4 +1,4 @@
-package mvt
+package libmvt
 
 /*
 #include <mvt.h>

@@ -1,4 +1,4 @@
-package mvt_test
+package libmvt_test
 
 import (
 	"bytes"
@@ -6,7 +6,7 @@ import (
 	"os"
 	"testing"
 
-	"huranvi.example/mvt"
+	"huranvi.example/libmvt"
 )
 
 // FuzzRead: any bytes have one verdict, and what is read is written and built as the canonical bytes. The environment may name
@@ -20,10 +20,10 @@ func FuzzRead(f *testing.F) {
 		}
 	}
 	f.Fuzz(func(t *testing.T, input []byte) {
-		verdict := mvt.Judge(input)
-		canonical, err := mvt.Rewrite(input)
+		verdict := libmvt.Judge(input)
+		canonical, err := libmvt.Rewrite(input)
 		same(t, "the verdict of Rewrite", fmt.Sprint(err), fmt.Sprint(verdict))
-		tile, err := mvt.Read(input)
+		tile, err := libmvt.Read(input)
 		same(t, "the verdict of Read", fmt.Sprint(err), fmt.Sprint(verdict))
 		if err != nil {
 			return
@@ -38,16 +38,16 @@ func FuzzRead(f *testing.F) {
 	})
 }
 
-func writtenBytes(t *testing.T, tile *mvt.Tile) []byte {
+func writtenBytes(t *testing.T, tile *libmvt.Tile) []byte {
 	t.Helper()
 	written, err := tile.Write()
 	return must(t, err, written)
 }
 
 // rebuilt is the tile built anew from what it says.
-func rebuilt(t *testing.T, tile *mvt.Tile) []byte {
+func rebuilt(t *testing.T, tile *libmvt.Tile) []byte {
 	t.Helper()
-	builder := mvt.NewBuilder()
+	builder := libmvt.NewBuilder()
 	defer builder.Close()
 	for _, layer := range tile.Layers() {
 		if layer.Version() != 2 {
@@ -63,7 +63,7 @@ func rebuilt(t *testing.T, tile *mvt.Tile) []byte {
 	return must(t, err, made)
 }
 
-func rebuild(builder *mvt.Builder, feature mvt.Feature) {
+func rebuild(builder *libmvt.Builder, feature libmvt.Feature) {
 	builder.Feature(feature.Kind())
 	if id, has := feature.ID(); has {
 		builder.ID(id)
@@ -74,9 +74,9 @@ func rebuild(builder *mvt.Builder, feature mvt.Feature) {
 	builder.Integers(feature.Integers()...)
 	for _, part := range feature.Parts() {
 		switch feature.Kind() {
-		case mvt.Lines:
+		case libmvt.Lines:
 			builder.Line()
-		case mvt.Polygons:
+		case libmvt.Polygons:
 			builder.Ring(part.Exterior)
 		}
 		builder.Points(part.Points...)

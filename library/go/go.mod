@@ -1,3 +1,3 @@
-module huranvi.example/mvt
+module huranvi.example/libmvt
 
 go 1.19

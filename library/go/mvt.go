@@ -1,7 +1,7 @@
-// Package mvt reads, judges and writes Mapbox Vector Tiles, by the proved library libmvt.
+// Package libmvt reads, judges and writes Mapbox Vector Tiles, by the proved library libmvt.
 //
-//	tile, err := mvt.Read(bytes)
-//	var refused *mvt.Refused
+//	tile, err := libmvt.Read(bytes)
+//	var refused *libmvt.Refused
 //	if errors.As(err, &refused) {
 //		log.Fatal(refused.Explanation)
 //	}
@@ -13,7 +13,7 @@
 // Each call takes the bytes of one uncompressed tile. If they break a rule the error is a *Refused, and if memory runs out
 // ErrMemory; each call says which others it has. Layers of another version than 2 are carried as their bytes. Any number of
 // goroutines may call at a time, and may look at one tile.
-package mvt
+package libmvt
 
 /*
 #include <mvt.h>

@@ -2,7 +2,7 @@
 
 //go:build cgo
 
-package mvt
+package libmvt
 
 // Limit is how many bytes a tile has at most.
 const Limit = 67108864

@@ -1,6 +1,6 @@
 //go:build mvt_system
 
-package mvt
+package libmvt
 
 /*
 #cgo pkg-config: mvt

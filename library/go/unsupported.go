@@ -1,6 +1,6 @@
 //go:build !cgo || (!mvt_system && !(linux && amd64))
 
-package mvt
+package libmvt
 
 // The module calls a library in C, which it has for Linux on amd64. So it wants cgo (CGO_ENABLED=1 and a C compiler), and
 // elsewhere the tag mvt_system and a libmvt that pkg-config finds.

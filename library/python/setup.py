@@ -38,7 +38,7 @@ setup(
     cmdclass={"build_ext": Build},
     ext_modules=[
         Extension(
-            "mvt._mvt",
+            "libmvt._mvt",
             sorted(glob("src/*.c")),
             depends=glob("src/*.h"),
             extra_compile_args=["-std=c11", "-O2", "-g0", "-fvisibility=hidden"],

@@ -16,8 +16,8 @@ count_extension() {
   for source in library/python/src/*.c; do
     cc "${of_c[@]}" -I"$headers" -c "$source" -o "$folder/$(basename "$source" .c).o" || return 1
   done
-  cp -r library/python/mvt "$counted/site"
-  cc -shared --coverage "$folder"/*.o "$BUILT/libmvt.a" -Wl,--exclude-libs,ALL -o "$counted/site/mvt/_mvt.abi3.so"
+  cp -r library/python/libmvt "$counted/site"
+  cc -shared --coverage "$folder"/*.o "$BUILT/libmvt.a" -Wl,--exclude-libs,ALL -o "$counted/site/libmvt/_mvt.abi3.so"
 }
 
 # count_python: has coverage.py begin in each process that finds site/ on its path and $COVERAGE_PROCESS_START.

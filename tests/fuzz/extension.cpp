@@ -21,7 +21,7 @@ PyObject *require(PyObject *made) {
 } // namespace
 
 extern "C" int LLVMFuzzerInitialize(int *, char ***) {
-    PyImport_AppendInittab("mvt._mvt", PyInit__mvt);
+    PyImport_AppendInittab("libmvt._mvt", PyInit__mvt);
     Py_InitializeEx(0);
     PyObject *program = require(PyImport_ImportModule("extension"));
     one = require(PyObject_GetAttrString(program, "one"));

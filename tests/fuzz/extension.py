@@ -11,15 +11,15 @@ class Within:
 
     @staticmethod
     def find_spec(name, path=None, target=None):
-        return BuiltinImporter.find_spec(name) if name == "mvt._mvt" else None
+        return BuiltinImporter.find_spec(name) if name == "libmvt._mvt" else None
 
 
 sys.meta_path.insert(0, Within)
 
-import mvt  # noqa: E402
-from mvt import _mvt  # noqa: E402
+import libmvt  # noqa: E402
+from libmvt import _mvt  # noqa: E402
 
-RAISED = (mvt.MvtError, TypeError, ValueError, OverflowError)
+RAISED = (libmvt.MvtError, TypeError, ValueError, OverflowError)
 # So many calls are made of the bytes, and so many may lie within one another.
 MOST, DEEPEST = 64, 3
 
@@ -80,7 +80,7 @@ class Run:
     """Calls of a builder, one after the other, as bytes say."""
 
     def __init__(self, data):
-        self.bytes, self.builder, self.depth, self.left = iter(data), mvt.Builder(), 0, min(len(data), MOST)
+        self.bytes, self.builder, self.depth, self.left = iter(data), libmvt.Builder(), 0, min(len(data), MOST)
 
     def byte(self):
         return next(self.bytes, 0)
@@ -111,7 +111,7 @@ class Run:
         kind = self.byte() % 8
         if kind < 2:
             return self.text()
-        return (self.number(), True, 0.5, mvt.Float(0.5), None, mvt.Sint(-5))[kind - 2]
+        return (self.number(), True, 0.5, libmvt.Float(0.5), None, libmvt.Sint(-5))[kind - 2]
 
     def points(self):
         kind, count = self.byte(), self.byte() % 6
@@ -154,7 +154,7 @@ class Run:
 
     def end(self, how):
         if how == 0:
-            mvt.judge(self.builder.finish())
+            libmvt.judge(self.builder.finish())
         elif how == 1:
             rows = self.builder.rows()
             assert len([rows.text(layer.name) for layer in rows.layers if layer.version == 2]) <= len(rows.layers)
@@ -172,7 +172,7 @@ def written(run):
     ]
     layer = SimpleNamespace(name=run.text(), extent=run.number(), features=features)
     try:
-        mvt.judge(mvt.write(SimpleNamespace(layers=[layer])))
+        libmvt.judge(libmvt.write(SimpleNamespace(layers=[layer])))
     except RAISED:
         pass
 
@@ -181,14 +181,14 @@ def read(data):
     """What reads tiles, of any bytes."""
     fault = None
     try:
-        mvt.judge(data)
-    except mvt.Refused as why:
+        libmvt.judge(data)
+    except libmvt.Refused as why:
         fault = (-1 if why.layer is None else why.layer, -1 if why.feature is None else why.feature, why.at, why.cause)
     _mvt.around_rows(data, fault or (0, 0, len(data), 20))
-    for call in (_mvt.mend_rows, _mvt.looked_at, _mvt.lint_rows, _mvt.survey_rows, _mvt.measured, mvt.rows, mvt.read):
+    for call in (_mvt.mend_rows, _mvt.looked_at, _mvt.lint_rows, _mvt.survey_rows, _mvt.measured, libmvt.rows, libmvt.read):
         try:
             call(data)
-        except mvt.Refused:
+        except libmvt.Refused:
             assert fault is not None, call
 
 
@@ -198,7 +198,7 @@ def one(data):
     while run.left > 0:
         run.call()
     try:
-        mvt.judge(run.builder.finish())
-    except mvt.NoTile:
+        libmvt.judge(run.builder.finish())
+    except libmvt.NoTile:
         pass
     written(Run(data))

@@ -8,7 +8,7 @@ import subprocess
 import sys
 from pathlib import Path
 
-import mvt
+import libmvt
 
 ROOT = Path(__file__).resolve().parents[2]
 EXAMPLE = ROOT / "examples" / "python" / "points.py"
@@ -36,9 +36,9 @@ tile = made([*rows, elsewhere], "places", "14", "8192", "8191")
 
 told = subprocess.run([os.environ["MVT"], "check"], input=tile, capture_output=True, check=True).stdout
 assert told.splitlines()[0] == b"ok layers 1 features %d canonical yes" % len(places), told
-[layer] = mvt.read(tile).layers
+[layer] = libmvt.read(tile).layers
 assert (layer.name, layer.extent) == ("places", 4096)
-by_name = {feature.attributes["name"]: feature for feature in mvt.read((TILES / "gdal.mvt").read_bytes()).layers[0].features}
+by_name = {feature.attributes["name"]: feature for feature in libmvt.read((TILES / "gdal.mvt").read_bytes()).layers[0].features}
 for feature, row in zip(layer.features, rows):
     assert feature.id == row["id"]
     assert feature.attributes == {key: row[key] for key in ("name", "population", "height")}, feature

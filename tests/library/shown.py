@@ -3,7 +3,7 @@
 import json
 import struct
 
-import mvt
+import libmvt
 
 
 def shown_value(value):
@@ -11,11 +11,11 @@ def shown_value(value):
         return {"bool": value}
     if isinstance(value, str):
         return {"string": value}
-    if isinstance(value, mvt.Float):
+    if isinstance(value, libmvt.Float):
         return {"float_bits": value.bits}
     if isinstance(value, float):
         return {"double_bits": struct.unpack("<Q", struct.pack("<d", value))[0]}
-    return {"uint" if isinstance(value, mvt.Uint) else "sint" if isinstance(value, mvt.Sint) else "int": value}
+    return {"uint" if isinstance(value, libmvt.Uint) else "sint" if isinstance(value, libmvt.Sint) else "int": value}
 
 
 def shown_geometry(kind, drawn):
@@ -25,7 +25,7 @@ def shown_geometry(kind, drawn):
 
 
 def shown_layer(layer):
-    if isinstance(layer, mvt.Foreign):
+    if isinstance(layer, libmvt.Foreign):
         return {"foreign": {"length": len(layer.bytes), "version": layer.version}}
     features = [
         {

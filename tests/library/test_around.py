@@ -3,17 +3,17 @@
 import unittest
 from pathlib import Path
 
-import mvt
-from mvt._around import Bounds, Field, Integer, Path as Drawn, Role, Step
+import libmvt
+from libmvt._around import Bounds, Field, Integer, Path as Drawn, Role, Step
 
 BROKEN = Path(__file__).resolve().parents[2] / "fixtures" / "tiles" / "broken"
 
 
 def around(name):
     tile = (BROKEN / f"{name}.mvt").read_bytes()
-    with unittest.TestCase().assertRaises(mvt.Refused) as refused:
-        mvt.judge(tile)
-    return mvt.around(tile, refused.exception), refused.exception
+    with unittest.TestCase().assertRaises(libmvt.Refused) as refused:
+        libmvt.judge(tile)
+    return libmvt.around(tile, refused.exception), refused.exception
 
 
 class Around(unittest.TestCase):
@@ -53,10 +53,10 @@ class Around(unittest.TestCase):
         for tile in (b"", b"\x1a", (BROKEN / "22-FirstRing.mvt").read_bytes()):
             for at in (0, 7, 2**64 - 1):
                 for index in (None, 0, 9):
-                    told = mvt.around(tile, mvt.Refused(index, index, at, at % 30, "Name"))
+                    told = libmvt.around(tile, libmvt.Refused(index, index, at, at % 30, "Name"))
                     self.assertEqual(len(told.steps), len(told.geometry))
         with self.assertRaises(TypeError):
-            mvt.around("a", mvt.Refused(None, None, 0, 1, "Truncated"))
+            libmvt.around("a", libmvt.Refused(None, None, 0, 1, "Truncated"))
 
 
 if __name__ == "__main__":

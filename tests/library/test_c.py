@@ -125,10 +125,10 @@ def test_analyzer(path):
 def test_one_version():
     """Each package has the version of mvt.h, also where one asks for another."""
     [version] = re.findall(r'^#define MVT_VERSION "(.*)"$', (TOP / "library/c/mvt.h").read_text(), re.M)
-    for name in ("library/python/pyproject.toml", "tools/pyproject.toml", "library/rust/mvt-sys/Cargo.toml", "library/rust/mvt/Cargo.toml"):
+    for name in ("library/python/pyproject.toml", "tools/pyproject.toml", "library/rust/libmvt-sys/Cargo.toml", "library/rust/libmvt/Cargo.toml"):
         text = (TOP / name).read_text()
         assert f'\nversion = "{version}"\n' in text, name
-        asked = re.findall(r'.*(?:libmvt|mvt-tools[^=]*|mvt-sys.*)==?[ "]*[0-9].*', text)
+        asked = re.findall(r'.*(?:libmvt|mvt-tools[^=]*|libmvt-sys.*)==?[ "]*[0-9].*', text)
         assert not [line for line in asked if version not in line], name
 
 

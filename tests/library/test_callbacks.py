@@ -5,9 +5,9 @@ this with the extension under AddressSanitizer."""
 import itertools
 import unittest
 
-import mvt
+import libmvt
 
-RAISED = (mvt.MvtError, TypeError, ValueError, OverflowError)
+RAISED = (libmvt.MvtError, TypeError, ValueError, OverflowError)
 
 
 def fresh(text):
@@ -110,7 +110,7 @@ COUNT = len(list(calls(Given(None))))
 class Called(unittest.TestCase):
     def made(self, meanwhile):
         """A builder, and things that do something with it once."""
-        builder, left = mvt.Builder(), []
+        builder, left = libmvt.Builder(), []
 
         def back():
             if left:
@@ -135,19 +135,19 @@ class Called(unittest.TestCase):
                     pass
                 try:
                     builder.finish()
-                except mvt.NoTile:
+                except libmvt.NoTile:
                     pass
                 builder.layer("a").feature("points").point(25, 17)
-                self.assertEqual(mvt.read(builder.finish())["a"].features[0].geometry, [(25, 17)])
+                self.assertEqual(libmvt.read(builder.finish())["a"].features[0].geometry, [(25, 17)])
 
     def test_what_is_raised_names_the_layer_in_which_it_was(self):
         builder, given = self.made("another layer")
-        with self.assertRaisesRegex(mvt.NoTile, "^layer 'a layer', feature 0, key a key: a text isn't UTF-8$"):
+        with self.assertRaisesRegex(libmvt.NoTile, "^layer 'a layer', feature 0, key a key: a text isn't UTF-8$"):
             builder.tag(given.bad_key, 1)
 
     def test_a_layer_that_has_ended(self):
         builder, given = self.made("finish")
-        with self.assertRaisesRegex(mvt.MvtError, "^begin a layer first$"):
+        with self.assertRaisesRegex(libmvt.MvtError, "^begin a layer first$"):
             builder.value(given.numbers[0])
 
     def test_rows_are_those_before_the_name_ends(self):
@@ -162,10 +162,10 @@ class Written(unittest.TestCase):
     """Objects whose lists are emptied while they are written."""
 
     def tile(self, **changed):
-        features = [mvt.Feature(number, {"a": 1, "b": 2}, "lines", [[(0, 0), (1, 1)], [(2, 2), (3, 3)]]) for number in range(4)]
+        features = [libmvt.Feature(number, {"a": 1, "b": 2}, "lines", [[(0, 0), (1, 1)], [(2, 2), (3, 3)]]) for number in range(4)]
         for name, value in changed.items():
             setattr(features[0], name, value)
-        return mvt.Tile([mvt.Layer("a", 4096, features), mvt.Layer("b", 4096, [])])
+        return libmvt.Tile([libmvt.Layer("a", 4096, features), libmvt.Layer("b", 4096, [])])
 
     def test_lists_that_are_emptied(self):
         class Empties:
@@ -180,7 +180,7 @@ class Written(unittest.TestCase):
         for changed in ({"id": Empties()}, {"attributes": attributes}, {"geometry": lines}):
             tile = self.tile(**changed)
             try:
-                mvt.write(tile)
+                libmvt.write(tile)
             except (*RAISED, IndexError):
                 pass
 
@@ -199,27 +199,27 @@ class Written(unittest.TestCase):
                 return dict(self.given)[key]
 
         tile = self.tile(attributes=Several(("x", 1), ("y", "z")))
-        self.assertEqual(mvt.read(mvt.write(tile))["a"].features[0].attributes, {"x": 1, "y": "z"})
+        self.assertEqual(libmvt.read(libmvt.write(tile))["a"].features[0].attributes, {"x": 1, "y": "z"})
         for items in ([5], [("x",)], [("x", 1, 2)], [(5, 1)], [("x", None)]):
             with self.assertRaises(RAISED):
-                mvt.write(self.tile(attributes=Several(*items)))
+                libmvt.write(self.tile(attributes=Several(*items)))
 
 
 class Numbers(unittest.TestCase):
     def test_thousands_of_digits_are_out_of_range(self):
         """Python spells none of more than 4,300 digits."""
         number = 10**5000
-        builder = mvt.Builder().layer("a").feature("points")
+        builder = libmvt.Builder().layer("a").feature("points")
         for call in (
             lambda: builder.point(number, 1),
             lambda: builder.feature("points", id=number),
             lambda: builder.tag("k", number),
             lambda: builder.tag("k", -number),
-            lambda: builder.tag("k", mvt.Int(number)),
+            lambda: builder.tag("k", libmvt.Int(number)),
             lambda: builder.layer("a", extent=number),
-            lambda: mvt.write(mvt.Tile([mvt.Layer("a", number, [])])),
+            lambda: libmvt.write(libmvt.Tile([libmvt.Layer("a", number, [])])),
         ):
-            with self.assertRaises(mvt.OutOfRange):
+            with self.assertRaises(libmvt.OutOfRange):
                 call()
 
 

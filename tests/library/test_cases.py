@@ -5,18 +5,18 @@ import json
 from types import SimpleNamespace
 
 import cases
-import mvt
+import libmvt
 import pytest
 from places import holders_line
 from room import others
 from shown import shown
 
-CALLS = (mvt.judge, mvt.lint, mvt.read, mvt.rows, mvt.report, mvt.rewrite, mvt.survey, mvt.to_json, mvt.to_svg)
+CALLS = (libmvt.judge, libmvt.lint, libmvt.read, libmvt.rows, libmvt.report, libmvt.rewrite, libmvt.survey, libmvt.to_json, libmvt.to_svg)
 EXAMPLES = cases.examples()
 
 
 def decoded(tile, size):
-    decoder = mvt.Decoder()
+    decoder = libmvt.Decoder()
     for at in range(0, len(tile), size):
         decoder.feed(tile[at : at + size])
     return decoder.finish()
@@ -24,25 +24,25 @@ def decoded(tile, size):
 
 def accepted(case):
     said, tile = case.said, case.tile
-    canonical, read, survey = case.bytes_of("canonical"), mvt.read(tile), mvt.survey(tile)
+    canonical, read, survey = case.bytes_of("canonical"), libmvt.read(tile), libmvt.survey(tile)
     first = f"ok layers {survey.layers} features {survey.features} canonical {'yes' if survey.canonical else 'no'}\n"
-    assert mvt.judge(tile) is None
-    assert (mvt.report(tile), mvt.report(tile).survey) == (said["check"], survey)
+    assert libmvt.judge(tile) is None
+    assert (libmvt.report(tile), libmvt.report(tile).survey) == (said["check"], survey)
     assert first + "".join(f"note {note}\n" for note in survey.notes) == said["check"]
-    assert "".join(f"lint {finding}\n" for finding in mvt.lint(tile)) == said.get("lint", "")
-    assert mvt.to_json(tile) + "\n" == said["show"]
-    assert mvt.to_svg(tile) + "\n" == said["draw"]
+    assert "".join(f"lint {finding}\n" for finding in libmvt.lint(tile)) == said.get("lint", "")
+    assert libmvt.to_json(tile) + "\n" == said["show"]
+    assert libmvt.to_svg(tile) + "\n" == said["draw"]
     assert shown(read) == json.loads(said["show"])
-    assert mvt.rewrite(tile) == canonical
-    assert (mvt.write(read), mvt.write(mvt.rows(tile)), decoded(tile, 7)) == (canonical, canonical, read)
-    assert mvt.mend(tile) == (canonical, [])
+    assert libmvt.rewrite(tile) == canonical
+    assert (libmvt.write(read), libmvt.write(libmvt.rows(tile)), decoded(tile, 7)) == (canonical, canonical, read)
+    assert libmvt.mend(tile) == (canonical, [])
     for name, extracted in case.layers.items():
-        assert mvt.extract(tile, [name]) == extracted
-        assert mvt.read(extracted).layers == [mvt.read_layer(tile, name)]
+        assert libmvt.extract(tile, [name]) == extracted
+        assert libmvt.read(extracted).layers == [libmvt.read_layer(tile, name)]
 
 
 def refused_by(call, tile):
-    with pytest.raises(mvt.Refused) as caught:
+    with pytest.raises(libmvt.Refused) as caught:
         call(tile)
     return caught.value
 
@@ -61,10 +61,10 @@ def refused(case):
     assert (f"{fault.start} {fault.end}\n", f"{fault.sentence}\n") == (said["place"], said["sentence"])
     assert refused_by(lambda whole: decoded(whole, 1 if len(whole) < 1000 else 1 << 16), tile).line == fault.line
     if "mended" in said:
-        mended = mvt.mend(tile)
+        mended = libmvt.mend(tile)
         assert (mended.bytes, "".join(f"{change}\n" for change in mended.changes)) == (case.bytes_of("mended"), said["change"])
     else:
-        assert refused_by(mvt.mend, tile).args == fault.args
+        assert refused_by(libmvt.mend, tile).args == fault.args
 
 
 def right(case):
@@ -82,6 +82,6 @@ def test_others(name):
     for case in cases.read(others() / name):
         try:
             right(case)
-        except (AssertionError, mvt.MvtError) as error:
+        except (AssertionError, libmvt.MvtError) as error:
             wrong[case.name] = str(error)
     assert not wrong

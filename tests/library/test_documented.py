@@ -7,7 +7,7 @@ import shutil
 import subprocess
 import sys
 
-import mvt
+import libmvt
 import pytest
 from documented import PROGRAMS, program_of
 from room import BUILT, CXX, MVT, TILES, TOP, made, needs, run
@@ -71,7 +71,7 @@ def test_rust(tmp_path):
     (tmp_path / "src").mkdir()
     (tmp_path / "src/main.rs").write_text(program_of("list.rs"))
     package = '[package]\nname = "list"\nversion = "1.0.0"\nedition = "2021"\n[workspace]\n[dependencies]\n'
-    (tmp_path / "Cargo.toml").write_text(f'{package}mvt = {{ path = "{crate() / "mvt"}" }}\n')
+    (tmp_path / "Cargo.toml").write_text(f'{package}libmvt = {{ path = "{crate() / "libmvt"}" }}\n')
     cargo("build", cwd=tmp_path)
     lists(crate().with_name("rust-target") / "debug" / "list")
 
@@ -83,7 +83,7 @@ def test_go(tmp_path):
     (tmp_path / "list.go").write_text(program_of("list.go"))
     environment = {**os.environ, "GOFLAGS": "-mod=mod"}
     go("mod", "init", "example.com/list", cwd=tmp_path, env=environment)
-    words = ["-replace", f"huranvi.example/mvt={module()}", "-require", "huranvi.example/mvt@v0.0.0"]
+    words = ["-replace", f"huranvi.example/libmvt={module()}", "-require", "huranvi.example/libmvt@v0.0.0"]
     go("mod", "edit", *words, cwd=tmp_path, env=environment)
     go("build", "-o", "list", cwd=tmp_path, env=environment)
     lists(tmp_path / "list")
@@ -102,8 +102,8 @@ def shared():
     """A tile of which the JSON has 656 MB: 10,000 points that share a text of 65,536 bytes."""
 
     def make(path):
-        points = [mvt.Feature(None, {"a": "x" * 65536}, "points", [(1, 1)])] * 10000
-        path.write_bytes(mvt.write(mvt.Tile([mvt.Layer("a", 4096, points)])))
+        points = [libmvt.Feature(None, {"a": "x" * 65536}, "points", [(1, 1)])] * 10000
+        path.write_bytes(libmvt.write(libmvt.Tile([libmvt.Layer("a", 4096, points)])))
 
     return made("shared.mvt", make)
 
@@ -135,7 +135,7 @@ def test_a_bound_of_the_program(shared):
 def test_the_module_s_own_example(tmp_path, monkeypatch):
     shutil.copy(GDAL, tmp_path / "town.mvt")
     monkeypatch.chdir(tmp_path)
-    told = doctest.testmod(mvt)
+    told = doctest.testmod(libmvt)
     assert told.failed == 0 and told.attempted >= 4
 
 

@@ -7,7 +7,7 @@ from pathlib import Path
 
 import pytest
 
-import mvt
+import libmvt
 
 TILES = Path(__file__).resolve().parents[2] / "fixtures" / "tiles"
 numpy = pytest.importorskip("numpy", reason="numpy isn't there")
@@ -17,12 +17,12 @@ RING, HOLE = [(0, 0), (10, 0), (10, 10), (0, 10)], [(2, 2), (2, 4), (4, 4), (4, 
 
 def frame_of(*features, extent=4096, **words):
     """The frame of a layer of these features, by way of a tile."""
-    tile = mvt.write(mvt.Tile([mvt.Layer("first", 4096, []), mvt.Layer("a", extent, list(features))]))
-    return mvt.rows(tile).frame("a", **words)
+    tile = libmvt.write(libmvt.Tile([libmvt.Layer("first", 4096, []), libmvt.Layer("a", extent, list(features))]))
+    return libmvt.rows(tile).frame("a", **words)
 
 
 def point(**attributes):
-    return mvt.Feature(None, attributes, "points", [(1, 2)])
+    return libmvt.Feature(None, attributes, "points", [(1, 2)])
 
 
 def columns(*attributes):
@@ -35,9 +35,9 @@ class TestColumns:
         [
             (["x", "", "x"], object, ["x", "", "x"]),
             ([True, False], bool, [True, False]),
-            ([1, mvt.Int(-2), mvt.Sint(-3)], "int64", [1, -2, -3]),
+            ([1, libmvt.Int(-2), libmvt.Sint(-3)], "int64", [1, -2, -3]),
             ([1, (1 << 64) - 1], "uint64", [1, (1 << 64) - 1]),
-            ([1.5, mvt.Float(0.25), 2], float, [1.5, 0.25, 2.0]),
+            ([1.5, libmvt.Float(0.25), 2], float, [1.5, 0.25, 2.0]),
             ([-1, (1 << 64) - 1], object, [-1, (1 << 64) - 1]),
             ([1.5, (1 << 53) + 1], object, [1.5, (1 << 53) + 1]),
             ([1, "x", True, 2.5], object, [1, "x", True, 2.5]),
@@ -73,8 +73,8 @@ class TestColumns:
     def test_the_values_are_those_of_plain_objects(self):
         for name in ("gdal", "postgis"):
             content = (TILES / f"{name}.mvt").read_bytes()
-            for layer in mvt.read(content):
-                frame = mvt.rows(content).frame(layer.name)
+            for layer in libmvt.read(content):
+                frame = libmvt.rows(content).frame(layer.name)
                 assert len(frame) == len(layer)
                 for at, feature in enumerate(layer):
                     found = {key: column[at] for key, column in frame.columns.items() if column[at] is not None}
@@ -86,8 +86,8 @@ class TestFrames:
     def test_shapes(self):
         lines = [[(0, 0), (5, 5)], [(1, 1), (2, 2), (3, 1)]]
         shapes = frame_of(
-            mvt.Feature(1, {}, "polygons", [[RING, HOLE], [RING]]), mvt.Feature(None, {}, "lines", lines),
-            mvt.Feature(3, {}, "points", [(7, -8), (9, 9)]), mvt.Feature(4, {}, "unknown", [9, 2, 2]),
+            libmvt.Feature(1, {}, "polygons", [[RING, HOLE], [RING]]), libmvt.Feature(None, {}, "lines", lines),
+            libmvt.Feature(3, {}, "points", [(7, -8), (9, 9)]), libmvt.Feature(4, {}, "unknown", [9, 2, 2]),
         ).shapes
         assert shapes.kinds.tolist() == [3, 2, 1, 0]
         assert shapes.parts.tolist() == [0, 3, 5, 6, 6]
@@ -96,20 +96,20 @@ class TestFrames:
         assert shapes.points[12:].tolist() == [[0, 0], [5, 5], [1, 1], [2, 2], [3, 1], [7, -8], [9, 9]]
 
     def test_names_and_rows(self):
-        tile = mvt.rows(mvt.write(mvt.Tile([mvt.Layer("a", 512, [point(k=1)]), mvt.Layer("b", 4096, [])])))
+        tile = libmvt.rows(libmvt.write(libmvt.Tile([libmvt.Layer("a", 512, [point(k=1)]), libmvt.Layer("b", 4096, [])])))
         frame = tile.frame(tile.layers[0])
         assert (frame.name, frame.extent, len(frame)) == ("a", 512, 1)
         assert repr(frame) == "<Frame 'a': 1 features, columns k>"
         assert len(tile.frame("b")) == 0 and tile.frame("b").columns == {}
-        with pytest.raises(mvt.NoLayer):
+        with pytest.raises(libmvt.NoLayer):
             tile.frame("c")
 
     def test_rows_that_overlap_too_often_are_refused(self):
         spans = [(0, 0, 1, (0, 0), (0, 1), (0, 0))] * 3000
-        rows = mvt.Rows.from_arrays(
-            layers=numpy.array([(2, 4096, (0, 1), (0, 3000), (0, 0), (0, 0), (0, 0))], mvt.dtype("layers")),
-            features=numpy.array(spans, mvt.dtype("features")),
-            parts=numpy.array([(0, (0, 100_000))], mvt.dtype("parts")),
+        rows = libmvt.Rows.from_arrays(
+            layers=numpy.array([(2, 4096, (0, 1), (0, 3000), (0, 0), (0, 0), (0, 0))], libmvt.dtype("layers")),
+            features=numpy.array(spans, libmvt.dtype("features")),
+            parts=numpy.array([(0, (0, 100_000))], libmvt.dtype("parts")),
             points=numpy.zeros((100_000, 2), int), texts=b"a",
         )
         with pytest.raises(MemoryError):
@@ -127,15 +127,15 @@ class TestGeopandas:
     def test_it_is_what_to_geojson_makes(self):
         lines = [[(0, 0), (5, 5)], [(1, 1), (2, 2), (3, 1)]]
         features = [
-            mvt.Feature(1, {"k": "x"}, "polygons", [[RING, HOLE], [[(20, 0), (30, 0), (30, 9), (20, 0)]]]),
-            mvt.Feature(2, {"k": "y"}, "polygons", [[RING]]), mvt.Feature(3, {}, "lines", lines),
-            mvt.Feature(4, {}, "lines", lines[:1]), mvt.Feature(5, {}, "points", [(7, -8), (9, 9)]),
-            mvt.Feature(6, {}, "points", [(7, 8)]), mvt.Feature(7, {}, "unknown", [9, 2, 2]),
+            libmvt.Feature(1, {"k": "x"}, "polygons", [[RING, HOLE], [[(20, 0), (30, 0), (30, 9), (20, 0)]]]),
+            libmvt.Feature(2, {"k": "y"}, "polygons", [[RING]]), libmvt.Feature(3, {}, "lines", lines),
+            libmvt.Feature(4, {}, "lines", lines[:1]), libmvt.Feature(5, {}, "points", [(7, -8), (9, 9)]),
+            libmvt.Feature(6, {}, "points", [(7, 8)]), libmvt.Feature(7, {}, "unknown", [9, 2, 2]),
         ]
-        layer = mvt.Layer("a", 4096, features)
-        wanted = mvt.to_geojson(mvt.Tile([layer]), *PLACE)["features"]
+        layer = libmvt.Layer("a", 4096, features)
+        wanted = libmvt.to_geojson(libmvt.Tile([layer]), *PLACE)["features"]
         for given in (layer, frame_of(*features)):
-            found = mvt.to_geopandas(given, *PLACE)
+            found = libmvt.to_geopandas(given, *PLACE)
             assert found.crs == "EPSG:4326" and found.index.tolist() == [1, 2, 3, 4, 5, 6, 7]
             assert found["k"].tolist() == ["x", "y", None, None, None, None, None]
             made = [None if each is None else each.__geo_interface__ for each in found.geometry]
@@ -146,21 +146,21 @@ class TestGeopandas:
         holes = [[(x, 2), (x, 4), (x + 2, 4), (x + 2, 2)] for x in range(2, 20, 4)]
         square = [(0, 0), (100, 0), (100, 100), (0, 100)]
         several = [[[square, *holes[:count]] for count in range(at % 6 + 1)] for at in range(100)]
-        features = [mvt.Feature(at, {}, "polygons", polygons) for at, polygons in enumerate(several)]
-        wanted = mvt.to_geojson(mvt.Tile([mvt.Layer("a", 4096, features)]), *PLACE)["features"]
-        made = [each.__geo_interface__ for each in mvt.to_geopandas(frame_of(*features), *PLACE).geometry]
+        features = [libmvt.Feature(at, {}, "polygons", polygons) for at, polygons in enumerate(several)]
+        wanted = libmvt.to_geojson(libmvt.Tile([libmvt.Layer("a", 4096, features)]), *PLACE)["features"]
+        made = [each.__geo_interface__ for each in libmvt.to_geopandas(frame_of(*features), *PLACE).geometry]
         assert json.loads(json.dumps(made)) == [each["geometry"] for each in wanted]
 
     def test_shapes_are_whole(self):
-        [made] = mvt.to_geopandas(frame_of(mvt.Feature(None, {}, "polygons", [[RING, HOLE]])), *PLACE).geometry
+        [made] = libmvt.to_geopandas(frame_of(libmvt.Feature(None, {}, "polygons", [[RING, HOLE]])), *PLACE).geometry
         assert made.is_valid and made.buffer(1).area > made.area > 0
 
     def test_a_key_of_the_name_geometry(self):
-        found = mvt.to_geopandas(frame_of(point(geometry="x")), *PLACE)
+        found = libmvt.to_geopandas(frame_of(point(geometry="x")), *PLACE)
         assert found["geometry"].tolist() == ["x"] and found.geometry.name == "_geometry"
 
     def test_nothing_and_nowhere(self):
-        assert len(mvt.to_geopandas(mvt.Layer("a", 4096, []), *PLACE)) == 0
-        assert mvt.to_geopandas(frame_of(point(k=1), extent=0), *PLACE).geometry.tolist() == [None]
+        assert len(libmvt.to_geopandas(libmvt.Layer("a", 4096, []), *PLACE)) == 0
+        assert libmvt.to_geopandas(frame_of(point(k=1), extent=0), *PLACE).geometry.tolist() == [None]
         with pytest.raises(ValueError):
-            mvt.to_geopandas(mvt.Layer("a", 4096, []), 31, 0, 0)
+            libmvt.to_geopandas(libmvt.Layer("a", 4096, []), 31, 0, 0)

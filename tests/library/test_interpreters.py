@@ -6,7 +6,7 @@ import unittest
 from concurrent.futures import ThreadPoolExecutor
 from pathlib import Path
 
-import mvt
+import libmvt
 
 try:
     import _interpreters as interpreters
@@ -27,32 +27,32 @@ import sys
 import threading
 
 sys.path[:] = {path!r}
-import mvt
+import libmvt
 
 tile, canonical, broken = {tile!r}, {canonical!r}, {broken!r}
-assert id(mvt.Rows) != {rows} and id(mvt.Refused) != {refused}
-whole, rows = mvt.read(tile), mvt.rows(tile)
-decoder = mvt.Decoder()
+assert id(libmvt.Rows) != {rows} and id(libmvt.Refused) != {refused}
+whole, rows = libmvt.read(tile), libmvt.rows(tile)
+decoder = libmvt.Decoder()
 decoder.feed(tile[:100])
-begun = mvt.Builder().layer("a").feature("points")
+begun = libmvt.Builder().layer("a").feature("points")
 
 
 def built():
-    return mvt.Builder().layer("a").feature("points", id=7).tag("depth", 3.5).point(25, 17).finish()
+    return libmvt.Builder().layer("a").feature("points", id=7).tag("depth", 3.5).point(25, 17).finish()
 
 
 def cause():
     try:
-        mvt.read(broken)
-    except mvt.Refused as why:
+        libmvt.read(broken)
+    except libmvt.Refused as why:
         return why.name
 
 
 def work(done):
     for _ in range(40):
-        assert mvt.read(tile) == whole and cause() == "RepeatedKey"
-        assert mvt.write(whole) == mvt.write(rows) == mvt.rewrite(tile) == canonical
-        assert mvt.read(built())["a"].features[0].attributes == {{"depth": 3.5}}
+        assert libmvt.read(tile) == whole and cause() == "RepeatedKey"
+        assert libmvt.write(whole) == libmvt.write(rows) == libmvt.rewrite(tile) == canonical
+        assert libmvt.read(built())["a"].features[0].attributes == {{"depth": 3.5}}
     done.append(True)
 """
 
@@ -93,17 +93,17 @@ class Two:
     def begun(self):
         """An interpreter that has the module."""
         made = created(self.has_lock)
-        told = {"path": sys.path, "tile": TILE, "canonical": CANONICAL, "broken": BROKEN, "rows": id(mvt.Rows), "refused": id(mvt.Refused)}
+        told = {"path": sys.path, "tile": TILE, "canonical": CANONICAL, "broken": BROKEN, "rows": id(libmvt.Rows), "refused": id(libmvt.Refused)}
         run_in(made, BEGIN.format(**told))
         return made
 
     def test_at_a_time(self):
-        whole, rows = mvt.read(TILE), mvt.rows(TILE)
+        whole, rows = libmvt.read(TILE), libmvt.rows(TILE)
         first, second = self.begun(), self.begun()
         with ThreadPoolExecutor(2) as threads:
             at_work = [threads.submit(run_in, each, WORK) for each in (first, second)]
             for _ in range(40):
-                self.assertEqual(mvt.write(mvt.read(TILE)), CANONICAL)
+                self.assertEqual(libmvt.write(libmvt.read(TILE)), CANONICAL)
             for each in at_work:
                 each.result()
             # one ends while the other works
@@ -111,18 +111,18 @@ class Two:
             interpreters.destroy(first)
             at_work.result()
         run_in(second, END)
-        self.assertEqual(mvt.read(TILE), whole)
+        self.assertEqual(libmvt.read(TILE), whole)
         interpreters.destroy(second)
-        self.assertEqual([mvt.write(rows), mvt.write(whole)], [CANONICAL, CANONICAL])
-        with self.assertRaises(mvt.Refused):
-            mvt.read(BROKEN)
+        self.assertEqual([libmvt.write(rows), libmvt.write(whole)], [CANONICAL, CANONICAL])
+        with self.assertRaises(libmvt.Refused):
+            libmvt.read(BROKEN)
 
     def test_one_after_another(self):
         for _ in range(10):
             made = self.begun()
             run_in(made, END)
             interpreters.destroy(made)
-        self.assertEqual(mvt.write(mvt.read(TILE)), CANONICAL)
+        self.assertEqual(libmvt.write(libmvt.read(TILE)), CANONICAL)
 
 
 @unittest.skipIf(interpreters is None, "this Python makes no interpreters")

@@ -8,16 +8,16 @@ import tempfile
 import unittest
 from pathlib import Path
 
-import mvt
+import libmvt
 
 LIBRARY = Path(__file__).resolve().parents[2] / "library" / "c"
 ROWS = {
-    "span": mvt.Span,
-    "layer": mvt.LayerRow,
-    "feature": mvt.FeatureRow,
-    "value": mvt.ValueRow,
-    "part": mvt.PartRow,
-    "point": mvt.PointRow,
+    "span": libmvt.Span,
+    "layer": libmvt.LayerRow,
+    "feature": libmvt.FeatureRow,
+    "value": libmvt.ValueRow,
+    "part": libmvt.PartRow,
+    "point": libmvt.PointRow,
 }
 LISTS = {
     "layers": "mvt_layer",
@@ -46,7 +46,7 @@ def compiled(expressions):
 def place(row, field):
     """The bytes of a row that a field sets: the first, and how many."""
     made = row()
-    setattr(made, field, mvt.Span(-1, -1) if isinstance(getattr(made, field), mvt.Span) else -1)
+    setattr(made, field, libmvt.Span(-1, -1) if isinstance(getattr(made, field), libmvt.Span) else -1)
     content = bytes(made)
     start = content.index(b"\xff")
     size = content.count(b"\xff")
@@ -74,7 +74,7 @@ class Layout(unittest.TestCase):
             self.assertEqual([field for field, _ in row._fields_], told)
 
     def test_lists(self):
-        flat = mvt.rows(b"")
+        flat = libmvt.rows(b"")
         sizes = compiled(["sizeof(%s)" % row for row in LISTS.values()])
         self.assertEqual([memoryview(getattr(flat, name)).itemsize for name in LISTS], sizes)
 
@@ -82,7 +82,7 @@ class Layout(unittest.TestCase):
         try:
             import numpy
 
-            from mvt import dtype
+            from libmvt import dtype
         except ImportError:
             self.skipTest("numpy isn't there")
         for name, of in LISTS.items():

@@ -8,7 +8,7 @@ import unittest
 from importlib.util import find_spec
 from pathlib import Path
 
-import mvt
+import libmvt
 
 TILES = Path(__file__).resolve().parents[2] / "fixtures" / "tiles"
 TILE = (TILES / "gdal.mvt").read_bytes()
@@ -16,7 +16,7 @@ TILE = (TILES / "gdal.mvt").read_bytes()
 
 def run(program):
     """What a program prints that has `mvt` and the bytes of a tile."""
-    head = "import mvt\ntile = open(%r, 'rb').read()\n" % str(TILES / "gdal.mvt")
+    head = "import libmvt\ntile = open(%r, 'rb').read()\n" % str(TILES / "gdal.mvt")
     command = [sys.executable, "-c", head + textwrap.dedent(program)]
     told = subprocess.run(command, capture_output=True, text=True, timeout=60)
     return told.returncode, told.stdout, told.stderr
@@ -27,13 +27,13 @@ class AtTheEnd(unittest.TestCase):
         told = run(
             """
             import atexit
-            many = [mvt.rows(tile) for _ in range(50)]
+            many = [libmvt.rows(tile) for _ in range(50)]
             wanted = [(point.x, point.y) for point in many[0].points]
             def late():
                 more = [bytearray(range(200)) * 40 for _ in range(200)]
                 print(all([(point.x, point.y) for point in flat.points] == wanted for flat in many))
             atexit.register(late)
-            held = mvt.rows(tile)
+            held = libmvt.rows(tile)
             """
         )
         self.assertEqual(told, (0, "True\n", ""))
@@ -44,10 +44,10 @@ class AtTheEnd(unittest.TestCase):
         told = run(
             """
             import atexit
-            held = mvt.rows(tile).array("points")
+            held = libmvt.rows(tile).array("points")
             wanted = held.tolist()
             atexit.register(lambda: print(held.tolist() == wanted))
-            mvt.rows(tile)
+            libmvt.rows(tile)
             """
         )
         self.assertEqual(told, (0, "True\n", ""))
@@ -57,7 +57,7 @@ class AtTheEnd(unittest.TestCase):
             told = run(
                 """
                 import threading, time
-                flat, decoder = mvt.rows(tile), mvt.Decoder()
+                flat, decoder = libmvt.rows(tile), libmvt.Decoder()
                 def work():
                     while True:
                         %s
@@ -76,7 +76,7 @@ class AtTheEnd(unittest.TestCase):
                 return resource.getrusage(resource.RUSAGE_SELF).ru_maxrss
             def use():
                 for _ in range(200):
-                    mvt.rows(tile * 1), mvt.read(tile), mvt.Decoder().feed(tile[:5000])
+                    libmvt.rows(tile * 1), libmvt.read(tile), libmvt.Decoder().feed(tile[:5000])
             use()
             before = peak()
             for _ in range(10):
@@ -94,7 +94,7 @@ class Threads(unittest.TestCase):
             """
             import threading
             for _ in range(20):
-                decoder = mvt.Decoder()
+                decoder = libmvt.Decoder()
                 start = threading.Barrier(8)
                 def feed():
                     start.wait()
@@ -104,15 +104,15 @@ class Threads(unittest.TestCase):
                 [thread.start() for thread in threads]
                 [thread.join() for thread in threads]
                 decoder.feed(tile)
-                assert decoder.finish() == mvt.read(tile)
-                decoder = mvt.Decoder()
+                assert decoder.finish() == libmvt.read(tile)
+                decoder = libmvt.Decoder()
                 answers = []
                 def feed_all():
                     start.wait()
                     try:
                         decoder.feed(tile * 20)
                         decoder.finish()
-                    except mvt.MvtError as why:
+                    except libmvt.MvtError as why:
                         answers.append(why)
                 threads = [threading.Thread(target=feed_all) for _ in range(8)]
                 [thread.start() for thread in threads]
@@ -137,10 +137,10 @@ class Interrupts(unittest.TestCase):
             raise Interrupted
 
         def rows():
-            mvt.rows(TILE)
+            libmvt.rows(TILE)
 
         def decoder():
-            mvt.Decoder().feed(TILE[:100])
+            libmvt.Decoder().feed(TILE[:100])
 
         old = signal.signal(signal.SIGALRM, raise_it)
         sys.unraisablehook = lost.append

@@ -8,22 +8,22 @@ import sys
 import unittest
 from pathlib import Path
 
-import mvt
-from mvt._mvt import json_lent, lint_rows, lookalike, looked_at, mend_rows, survey_rows, svg_lent
+import libmvt
+from libmvt._mvt import json_lent, lint_rows, lookalike, looked_at, mend_rows, survey_rows, svg_lent
 
 TILES = Path(__file__).resolve().parents[2] / "fixtures" / "tiles"
 TILE = (TILES / "gdal.mvt").read_bytes()
 BROKEN = (TILES / "broken" / "20-ZeroSegment.mvt").read_bytes()
 # A feature of unknown type without integers, which viewers stumble over, and a layer without features, which is noted.
 FOUND = bytes.fromhex("1a077802 0a0161 1200 1a057802 0a0162")
-WHOLE = mvt.read(TILE)
-ROWS = mvt.rows(TILE)
+WHOLE = libmvt.read(TILE)
+ROWS = libmvt.rows(TILE)
 REFUSING = sys.argv[1] if len(sys.argv) > 1 and sys.argv[1].endswith(".so") else None
 
 
 def built():
-    builder = mvt.Builder().layer("a", extent=512)
-    builder.feature("points", id=7).tag("name", "x").tag("depth", mvt.Float(0.5)).point(1, 2).points([(3, 4)])
+    builder = libmvt.Builder().layer("a", extent=512)
+    builder.feature("points", id=7).tag("name", "x").tag("depth", libmvt.Float(0.5)).point(1, 2).points([(3, 4)])
     builder.feature("lines").line([(0, 0), (1, 2)]).tag_at(builder.key("k"), builder.value(-5))
     builder.feature("polygons").ring([(0, 0), (8, 0), (8, 8)], exterior=True)
     builder.feature("unknown").integers([9, 2]).foreign(1, bytes.fromhex("78010A0162"))
@@ -31,39 +31,39 @@ def built():
 
 
 def decoded():
-    decoder = mvt.Decoder()
+    decoder = libmvt.Decoder()
     for at in range(0, len(TILE), 100):
         decoder.feed(TILE[at : at + 100])
     return decoder.finish()
 
 
 def refused_of_decoder():
-    decoder = mvt.Decoder(most=1 << 20)
+    decoder = libmvt.Decoder(most=1 << 20)
     decoder.feed(BROKEN)
     decoder.rows()
 
 
 def tile_with(**changed):
     fields = {"id": None, "attributes": {}, "kind": "points", "geometry": [(1, 1)], **changed}
-    return mvt.Tile([mvt.Layer("a", 4096, [mvt.Feature(**fields)])])
+    return libmvt.Tile([libmvt.Layer("a", 4096, [libmvt.Feature(**fields)])])
 
 
 def texts_of_rows():
-    flat = mvt.rows(TILE)
+    flat = libmvt.rows(TILE)
     return [flat.text(layer.name) for layer in flat.layers], [flat.line(part) for part in flat.parts], repr(flat.points[0])
 
 
 GOOD = (
-    lambda: mvt.read(TILE),
-    lambda: mvt.read(bytearray(TILE)),
-    lambda: mvt.read_layer(TILE, "water"),
-    lambda: mvt.rows(TILE).layers[0].name.start,
-    lambda: memoryview(mvt.rows(TILE).points).nbytes,
+    lambda: libmvt.read(TILE),
+    lambda: libmvt.read(bytearray(TILE)),
+    lambda: libmvt.read_layer(TILE, "water"),
+    lambda: libmvt.rows(TILE).layers[0].name.start,
+    lambda: memoryview(libmvt.rows(TILE).points).nbytes,
     texts_of_rows,
-    lambda: mvt.write(WHOLE),
-    lambda: mvt.write(ROWS),
-    lambda: mvt.report(TILE),
-    lambda: mvt.survey(FOUND),
+    lambda: libmvt.write(WHOLE),
+    lambda: libmvt.write(ROWS),
+    lambda: libmvt.report(TILE),
+    lambda: libmvt.survey(FOUND),
     lambda: survey_rows(BROKEN),
     lambda: lint_rows(BROKEN),
     lambda: lint_rows(FOUND),
@@ -75,37 +75,37 @@ GOOD = (
     lambda: mend_rows(BROKEN),
     lambda: memoryview(json_lent(TILE)).nbytes,
     lambda: memoryview(svg_lent(TILE)).nbytes,
-    lambda: [memoryview(each).nbytes for each in mvt.rows(TILE)._lent()],
-    lambda: mvt.rewrite(TILE),
-    lambda: mvt.to_json(TILE),
-    lambda: mvt.to_svg(TILE),
-    lambda: mvt.extract(TILE, ["water", "roads"]),
+    lambda: [memoryview(each).nbytes for each in libmvt.rows(TILE)._lent()],
+    lambda: libmvt.rewrite(TILE),
+    lambda: libmvt.to_json(TILE),
+    lambda: libmvt.to_svg(TILE),
+    lambda: libmvt.extract(TILE, ["water", "roads"]),
     built,
     decoded,
 )
 BAD = (
-    lambda: mvt.read(BROKEN),
-    lambda: mvt.judge(BROKEN),
-    lambda: mvt.read("tile"),
+    lambda: libmvt.read(BROKEN),
+    lambda: libmvt.judge(BROKEN),
+    lambda: libmvt.read("tile"),
     lambda: mend_rows(b"\0"),
     lambda: json_lent(BROKEN),
     lambda: lookalike("tile"),
-    lambda: mvt.read(TILE, most=10),
-    lambda: mvt.extract(TILE, ["water", "nowhere"]),
-    lambda: mvt.read_layer(TILE, "nowhere"),
+    lambda: libmvt.read(TILE, most=10),
+    lambda: libmvt.extract(TILE, ["water", "nowhere"]),
+    lambda: libmvt.read_layer(TILE, "nowhere"),
     refused_of_decoder,
-    lambda: mvt.write(tile_with(geometry=[])),
-    lambda: mvt.write(tile_with(geometry=[(1, 1, 1)])),
-    lambda: mvt.write(tile_with(geometry=[(1 << 31, 1)])),
-    lambda: mvt.write(tile_with(attributes={"k": None})),
-    lambda: mvt.write(tile_with(attributes={"k": "\ud800"})),
-    lambda: mvt.write(tile_with(id=-1)),
-    lambda: mvt.write(tile_with(kind="circles")),
-    lambda: mvt.Builder().layer("a").feature("lines").point(1, 1),
+    lambda: libmvt.write(tile_with(geometry=[])),
+    lambda: libmvt.write(tile_with(geometry=[(1, 1, 1)])),
+    lambda: libmvt.write(tile_with(geometry=[(1 << 31, 1)])),
+    lambda: libmvt.write(tile_with(attributes={"k": None})),
+    lambda: libmvt.write(tile_with(attributes={"k": "\ud800"})),
+    lambda: libmvt.write(tile_with(id=-1)),
+    lambda: libmvt.write(tile_with(kind="circles")),
+    lambda: libmvt.Builder().layer("a").feature("lines").point(1, 1),
     lambda: ROWS.array("nowhere"),
 )
 # Made once, since nothing can be made where an allocation is refused.
-ERRORS = (mvt.MvtError, TypeError, OverflowError, AttributeError, ImportError, MemoryError)
+ERRORS = (libmvt.MvtError, TypeError, OverflowError, AttributeError, ImportError, MemoryError)
 
 
 def size():
@@ -171,8 +171,8 @@ class Refused(unittest.TestCase):
             self.assertGreater(self.refused(allocator, each), 0)
             self.assertLess(size() - before, 500_000)
             self.assertEqual(gc.isenabled(), collects)
-        self.assertEqual(mvt.read(TILE), WHOLE)
-        self.assertEqual(mvt.write(WHOLE), mvt.write(ROWS))
+        self.assertEqual(libmvt.read(TILE), WHOLE)
+        self.assertEqual(libmvt.write(WHOLE), libmvt.write(ROWS))
 
 
 if __name__ == "__main__":

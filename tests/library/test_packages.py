@@ -18,7 +18,7 @@ from documented import program_of
 from room import BUILT, TILES, TOP, all_cases, made, needs, run
 
 pytestmark = [pytest.mark.xdist_group("packages"), needs("dpkg-deb", "dpkg", "dh", "dh_python3", "pandoc", "pkg-config", "man", "g++")]
-NAMES = ["mvt", "libmvt0.3", "libmvt-dev", "python3-mvt", "mvt-tools"]
+NAMES = ["mvt", "libmvt0.3", "libmvt-dev", "python3-libmvt", "mvt-tools"]
 [VERSION] = re.findall(r'^#define MVT_VERSION "(.*)"$', (TOP / "library/c/mvt.h").read_text(), re.M)
 LAYERS = "places: 3 features\nroads: 2 features\nwater: 2 features\n"
 GDAL, REPORT = TILES / "gdal.mvt", (TILES / "gdal.check").read_text()
@@ -76,7 +76,7 @@ def contents(path, name):
         return [files.extractfile(each).read().decode() for each in files if each.isfile() and each.name.endswith(f"/{name}")]
 
 
-@pytest.mark.parametrize("pattern", ["mvt-*.tar.gz", "libmvt-*.whl", "libmvt-*.tar.gz", "mvt-sys-*.crate", "go/**/*.zip"])
+@pytest.mark.parametrize("pattern", ["mvt-*.tar.gz", "libmvt-*.whl", "libmvt-*.tar.gz", "libmvt-sys-*.crate", "go/**/*.zip"])
 def test_notices(pattern):
     """What has the library in it has the notices of the code that is linked."""
     found = [path for path in packages().glob(pattern) if not path.name.startswith("mvt-tools")]
@@ -115,7 +115,7 @@ def test_names(tmp_path):
 
 def named():
     """Files of the system with the packages' names, of which other packages may have some (PostGIS's mvt.bc)."""
-    names = ["mvt", "mvt[.-]*", "_mvt", "libmvt*", "python3-mvt"]
+    names = ["mvt", "mvt[.-]*", "_mvt", "libmvt*", "python3-libmvt"]
     words = [word for name in names for word in ("-o", "-name", name)][1:]
     return sorted(run("find", "/usr/lib", "/usr/share", "(", *words, ")", "-print").stdout.splitlines())
 
@@ -134,7 +134,7 @@ def installed():
     run("dpkg", "--purge", *NAMES)
     assert named() == before
     assert not shutil.which("mvt") and not Path("/usr/include/mvt.h").exists()
-    assert not [name for name in ("mvt", "mvt_tools") if Path("/usr/lib/python3/dist-packages", name).exists()]
+    assert not [name for name in ("libmvt", "mvt_tools") if Path("/usr/lib/python3/dist-packages", name).exists()]
 
 
 @pytest.mark.usefixtures("installed")
@@ -257,8 +257,8 @@ def test_crates(tmp_path):
         run("tar", "-xf", crate, "-C", tmp_path)
     (tmp_path / "src").mkdir()
     (tmp_path / "src/main.rs").write_text(program_of("list.rs"))
-    package = f'[package]\nname = "list"\nversion = "1.0.0"\nedition = "2021"\n[dependencies]\nmvt = "={VERSION}"\n[patch.crates-io]\n'
-    patches = "".join(f'{name} = {{ path = "{name}-{VERSION}" }}\n' for name in ("mvt", "mvt-sys"))
+    package = f'[package]\nname = "list"\nversion = "1.0.0"\nedition = "2021"\n[dependencies]\nlibmvt = "={VERSION}"\n[patch.crates-io]\n'
+    patches = "".join(f'{name} = {{ path = "{name}-{VERSION}" }}\n' for name in ("libmvt", "libmvt-sys"))
     (tmp_path / "Cargo.toml").write_text(f"{package}{patches}[workspace]\n")
     run("cargo", "build", "-q", "--offline", "--target-dir", tmp_path / "target", cwd=tmp_path, env=PLAIN)
     assert of_gdal(tmp_path / "target/debug/list") == LAYERS
@@ -271,7 +271,7 @@ def test_go_module(tmp_path):
     shutil.copy(document("list.go"), tmp_path / "list")
     environment = {**PLAIN, "GOPROXY": f"file://{packages()}/go", "GONOSUMDB": "huranvi.example", "GOFLAGS": "-mod=mod -modcacherw"}
     environment.update(GOCACHE=os.environ["MVT_ROOM"] + "/go-cache", GOMODCACHE=str(tmp_path / "modules"))
-    for words in (["mod", "init", "example.com/list"], ["get", f"huranvi.example/mvt@v{VERSION}"], ["build", "-o", "list_go"]):
+    for words in (["mod", "init", "example.com/list"], ["get", f"huranvi.example/libmvt@v{VERSION}"], ["build", "-o", "list_go"]):
         run("go", *words, cwd=tmp_path / "list", env=environment)
     assert of_gdal(tmp_path / "list/list_go") == LAYERS
 
@@ -346,7 +346,7 @@ class TestWheel:
     def test_removed(self, tmp_path):
         inside = environment_of(tmp_path / "venv", sys.executable, *wheels())
         run(inside / "python", "-m", "pip", "-q", "uninstall", "-y", "libmvt", "mvt-tools")
-        run(inside / "python", "-c", "import mvt", status=1, env=alone(tmp_path))
+        run(inside / "python", "-c", "import libmvt", status=1, env=alone(tmp_path))
 
 
 def test_source_distributions(tmp_path):

@@ -3,23 +3,23 @@ has its sentence. test_cases.py has where faults stand."""
 
 import unittest
 
-import mvt
+import libmvt
 import places
-from mvt._numbers import LOOKALIKES
+from libmvt._numbers import LOOKALIKES
 
 
 class Places(unittest.TestCase):
     def test_what_each_looks_like(self):
         seen = set()
         for name, tile in [*places.NO_TILES.items(), *enumerate(places.in_many_pieces(1000)), (None, b"")]:
-            kind = mvt.looks_like(tile)
+            kind = libmvt.looks_like(tile)
             self.assertEqual(kind, places.looks_like(tile), name)
             seen.add(kind)
         self.assertEqual(seen, {None, *LOOKALIKES.values()})
 
     def test_what_heads_look_like(self):
         for head in places.heads(20_000):
-            self.assertEqual(mvt.looks_like(head), places.looks_like(head), head)
+            self.assertEqual(libmvt.looks_like(head), places.looks_like(head), head)
 
     def test_each_cause_has_its_sentence(self):
         causes = {int(cause) for cause in places.re.findall(r"^\| (\d+) \|", (places.TOP / "docs/FORMAT.md").read_text(), places.re.M)}

@@ -3,12 +3,12 @@ tile, in pieces too; any bytes have one verdict; and objects that are no tile en
 
 import struct
 
-import mvt
+import libmvt
 import pytest
 from hypothesis import HealthCheck, given, settings
 from hypothesis import strategies as some
 
-CALLS = (mvt.read, mvt.rows, mvt.rewrite, mvt.report, mvt.survey, mvt.lint, mvt.to_json, mvt.to_svg)
+CALLS = (libmvt.read, libmvt.rows, libmvt.rewrite, libmvt.report, libmvt.survey, libmvt.lint, libmvt.to_json, libmvt.to_svg)
 # A busy machine is no fault.
 busy = [HealthCheck.too_slow, HealthCheck.data_too_large]
 settings.register_profile("gate", derandomize=True, deadline=None, max_examples=300, suppress_health_check=busy)
@@ -19,10 +19,10 @@ near = some.integers(-(2**29), 2**29)
 points = some.tuples(near, near)
 texts = some.text(max_size=20)
 numbers = some.one_of(
-    some.integers(0, 2**64 - 1).map(mvt.Uint),
-    some.integers(-(2**63), 2**63 - 1).map(mvt.Int),
-    some.integers(-(2**63), 2**63 - 1).map(mvt.Sint),
-    some.integers(0, 2**32 - 1).map(lambda bits: mvt.Float(bits=bits)),
+    some.integers(0, 2**64 - 1).map(libmvt.Uint),
+    some.integers(-(2**63), 2**63 - 1).map(libmvt.Int),
+    some.integers(-(2**63), 2**63 - 1).map(libmvt.Sint),
+    some.integers(0, 2**32 - 1).map(lambda bits: libmvt.Float(bits=bits)),
     some.floats(),
 )
 values = some.one_of(texts, some.booleans(), numbers)
@@ -57,19 +57,19 @@ geometries = some.one_of(
 def features(draw):
     kind, geometry = draw(geometries)
     identifier = draw(some.none() | some.integers(0, 2**64 - 1))
-    return mvt.Feature(identifier, draw(some.dictionaries(texts, values, max_size=4)), kind, geometry)
+    return libmvt.Feature(identifier, draw(some.dictionaries(texts, values, max_size=4)), kind, geometry)
 
 
 @some.composite
 def tiles(draw):
     names = draw(some.lists(texts, max_size=3, unique=True))
     extents = some.integers(0, 2**32 - 1)
-    return mvt.Tile([mvt.Layer(name, draw(extents), draw(some.lists(features(), max_size=4))) for name in names])
+    return libmvt.Tile([libmvt.Layer(name, draw(extents), draw(some.lists(features(), max_size=4))) for name in names])
 
 
 def built(tile):
     """The tile, told to a builder."""
-    builder = mvt.Builder()
+    builder = libmvt.Builder()
     for layer in tile.layers:
         builder.layer(layer.name, layer.extent)
         for feature in layer.features:
@@ -96,10 +96,10 @@ def draw(builder, feature):
 
 @given(tiles(), some.data())
 def test_tiles(tile, data):
-    written = mvt.write(tile)
-    assert mvt.read(written) == tile
-    assert mvt.rewrite(written) == mvt.write(mvt.rows(written)) == built(tile) == written
-    decoder, cuts = mvt.Decoder(), data.draw(some.lists(some.integers(0, len(written)), max_size=4).map(sorted))
+    written = libmvt.write(tile)
+    assert libmvt.read(written) == tile
+    assert libmvt.rewrite(written) == libmvt.write(libmvt.rows(written)) == built(tile) == written
+    decoder, cuts = libmvt.Decoder(), data.draw(some.lists(some.integers(0, len(written)), max_size=4).map(sorted))
     for start, end in zip([0, *cuts], [*cuts, len(written)]):
         decoder.feed(written[start:end])
     assert decoder.finish() == tile
@@ -108,25 +108,25 @@ def test_tiles(tile, data):
 def verdict(call, content):
     try:
         call(content)
-    except mvt.Refused as why:
+    except libmvt.Refused as why:
         return why.line
     return None
 
 
 @given(some.binary(max_size=200))
 def test_any_bytes(content):
-    assert {verdict(call, content) for call in CALLS} == {verdict(mvt.judge, content)}
+    assert {verdict(call, content) for call in CALLS} == {verdict(libmvt.judge, content)}
 
 
 @given(tiles(), some.data())
 def test_changed_tiles(tile, data):
-    content = bytearray(mvt.write(tile))
+    content = bytearray(libmvt.write(tile))
     for _ in range(min(len(content), data.draw(some.integers(1, 3)))):
         content[data.draw(some.integers(0, len(content) - 1))] = data.draw(some.integers(0, 255))
     found = {verdict(call, bytes(content)) for call in CALLS}
-    assert found == {verdict(mvt.judge, bytes(content))}
+    assert found == {verdict(libmvt.judge, bytes(content))}
     if found == {None}:
-        assert mvt.write(mvt.read(bytes(content))) == mvt.rewrite(bytes(content))
+        assert libmvt.write(libmvt.read(bytes(content))) == libmvt.rewrite(bytes(content))
 
 
 # What a tile's objects shouldn't hold, and what they may.
@@ -134,27 +134,27 @@ oddities = some.one_of(
     some.none(), some.integers(), some.floats(), some.text(max_size=3), some.binary(max_size=3), some.booleans(),
     some.lists(some.integers(-(2**40), 2**40), max_size=3), some.lists(points, max_size=3),
     some.lists(some.lists(points, max_size=3), max_size=2), some.dictionaries(texts, values, max_size=2),
-    some.sampled_from([mvt.Point, object(), "points", "polygons", "\ud800", struct.error]),
+    some.sampled_from([libmvt.Point, object(), "points", "polygons", "\ud800", struct.error]),
 )  # fmt: skip
-DOCUMENTED = (mvt.MvtError, TypeError, ValueError, OverflowError, AttributeError)
+DOCUMENTED = (libmvt.MvtError, TypeError, ValueError, OverflowError, AttributeError)
 
 
 @given(oddities, oddities, oddities, oddities, oddities, oddities)
 def test_odd_objects(identifier, attributes, kind, geometry, name, extent):
     """Each is written, and then read as a tile, or ends in an error."""
-    feature = mvt.Feature(identifier, attributes, kind, geometry)
+    feature = libmvt.Feature(identifier, attributes, kind, geometry)
     for of in (
-        mvt.Tile([mvt.Layer(name, extent, [feature])]),
-        mvt.Tile([mvt.Layer("a", 4096, [feature])]),
-        mvt.Tile([mvt.Layer("a", 4096, [mvt.Feature(None, {}, kind, geometry)])]),
-        mvt.Tile([mvt.Foreign(identifier, name)]),
-        mvt.Tile(geometry),
+        libmvt.Tile([libmvt.Layer(name, extent, [feature])]),
+        libmvt.Tile([libmvt.Layer("a", 4096, [feature])]),
+        libmvt.Tile([libmvt.Layer("a", 4096, [libmvt.Feature(None, {}, kind, geometry)])]),
+        libmvt.Tile([libmvt.Foreign(identifier, name)]),
+        libmvt.Tile(geometry),
     ):
         try:
-            written = mvt.write(of)
+            written = libmvt.write(of)
         except DOCUMENTED:
             continue
-        mvt.judge(written)
+        libmvt.judge(written)
 
 
 STEPS = ["layer", "foreign", "key", "value", "feature", "tag", "tag_at", "point", "points", "line", "ring", "integers", "drop"]
@@ -163,7 +163,7 @@ STEPS = ["layer", "foreign", "key", "value", "feature", "tag", "tag_at", "point"
 @given(some.lists(some.tuples(some.sampled_from(STEPS), some.lists(oddities | texts | points, max_size=3)), max_size=12))
 def test_odd_builders(steps):
     """Calls in any order, with any arguments: each answers or raises, and what is finished is a tile."""
-    builder = mvt.Builder()
+    builder = libmvt.Builder()
     for name, given_to in steps:
         try:
             getattr(builder, name)(*given_to)
@@ -173,10 +173,10 @@ def test_odd_builders(steps):
         finished = builder.finish()
     except DOCUMENTED:
         return
-    mvt.judge(finished)
+    libmvt.judge(finished)
 
 
-@pytest.mark.parametrize("call", [mvt.judge, *CALLS], ids=lambda it: it.__name__)
+@pytest.mark.parametrize("call", [libmvt.judge, *CALLS], ids=lambda it: it.__name__)
 @given(oddities)
 def test_what_is_no_bytes(call, given_to):
     """A call takes bytes or what lends them, and nothing else."""

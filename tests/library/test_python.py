@@ -48,10 +48,10 @@ def sanitized():
     """The module, whose extension is compiled with sanitizers."""
 
     def make(path):
-        shutil.copytree(TOP / "library/python/mvt", path / "mvt", ignore=shutil.ignore_patterns("*.so"))
+        shutil.copytree(TOP / "library/python/libmvt", path / "libmvt", ignore=shutil.ignore_patterns("*.so"))
         sources = [*sorted(TOP.glob("library/python/src/*.c")), BUILT / "libmvt.a"]
         headers = f"-I{sysconfig.get_path('include')}"
-        run(*C, "-fPIC", "-shared", *SANITIZED, headers, "-o", path / "mvt/_mvt.abi3.so", *sources)
+        run(*C, "-fPIC", "-shared", *SANITIZED, headers, "-o", path / "libmvt/_mvt.abi3.so", *sources)
 
     return made("sanitized-module", make)
 
@@ -72,7 +72,7 @@ def test_points():
 
 
 @needs("mypy")
-@pytest.mark.parametrize("paths", [["library/python/mvt", "tests/library/typed.py"], ["tools/mvt_tools"]], ids=lambda it: it[0])
+@pytest.mark.parametrize("paths", [["library/python/libmvt", "tests/library/typed.py"], ["tools/mvt_tools"]], ids=lambda it: it[0])
 def test_types(paths):
     run("mypy", "--strict", "--cache-dir=/dev/null", *paths, cwd=TOP, env={**os.environ, "MYPYPATH": "library/python"})
 
@@ -86,8 +86,8 @@ def test_all_python_by_pyflakes():
 
 def test_before_it_is_built(tmp_path):
     """A clone in which nothing is built yet says what makes it."""
-    shutil.copytree(TOP / "library/python/mvt", tmp_path / "mvt", ignore=shutil.ignore_patterns("_mvt.abi3.so"))
-    told = run(sys.executable, "-c", "import mvt", status=1, env={**os.environ, "PYTHONPATH": str(tmp_path)})
+    shutil.copytree(TOP / "library/python/libmvt", tmp_path / "libmvt", ignore=shutil.ignore_patterns("_mvt.abi3.so"))
+    told = run(sys.executable, "-c", "import libmvt", status=1, env={**os.environ, "PYTHONPATH": str(tmp_path)})
     assert "library/build" in told.stderr.splitlines()[-1]
 
 

@@ -54,7 +54,7 @@ def test_the_example(tmp_path):
     shutil.copytree(TOP / "examples/rust", tmp_path / "weigh", ignore=shutil.ignore_patterns("target", "Cargo.lock"))
     manifest = tmp_path / "weigh/Cargo.toml"
     lines = manifest.read_text().splitlines()
-    paths = [f'mvt = {{ path = "{crate() / "mvt"}" }}' if "path = " in line else line for line in lines]
+    paths = [f'libmvt = {{ path = "{crate() / "libmvt"}" }}' if "path = " in line else line for line in lines]
     manifest.write_text("\n".join(paths) + "\n")
     cargo("fmt", "--check", cwd=tmp_path / "weigh")
     cargo("build", "-q", cwd=tmp_path / "weigh")

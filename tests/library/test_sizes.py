@@ -8,8 +8,8 @@ import sys
 import unittest
 from pathlib import Path
 
-import mvt
-from mvt._mvt import measured
+import libmvt
+from libmvt._mvt import measured
 from shown import shown
 
 sys.path.insert(0, str(Path(__file__).resolve().parents[1] / "program"))
@@ -19,7 +19,7 @@ import sizes  # noqa: E402
 
 def decoded(tile):
     """A tile in pieces of seven bytes."""
-    decoder = mvt.Decoder()
+    decoder = libmvt.Decoder()
     for at in range(0, len(tile), 7):
         decoder.feed(tile[at : at + 7])
     return decoder.finish()
@@ -34,27 +34,27 @@ class Sizes(unittest.TestCase):
     def answers(self, layers):
         fields = [sizes.field(3, sizes.payload_of(it)) for it in layers]
         tile = b"".join(fields)
-        read = mvt.read(tile)
+        read = libmvt.read(tile)
         self.assertEqual(shown(read), {"layers": layers})
         self.assertEqual(shown(decoded(tile)), {"layers": layers})
-        self.assertEqual(mvt.write(read), tile)
-        self.assertEqual(mvt.rewrite(tile), tile)
-        self.assertEqual(json.loads(mvt.to_json(tile)), {"layers": layers})
-        self.assertEqual(mvt.to_svg(tile).count("<path "), sum(len(it.get("features", [])) for it in layers))
-        self.assertTrue(mvt.report(tile).startswith("ok layers %d " % len(layers)))
-        mvt.judge(tile)
+        self.assertEqual(libmvt.write(read), tile)
+        self.assertEqual(libmvt.rewrite(tile), tile)
+        self.assertEqual(json.loads(libmvt.to_json(tile)), {"layers": layers})
+        self.assertEqual(libmvt.to_svg(tile).count("<path "), sum(len(it.get("features", [])) for it in layers))
+        self.assertTrue(libmvt.report(tile).startswith("ok layers %d " % len(layers)))
+        libmvt.judge(tile)
         named = [(it["name"], bytes) for it, bytes in zip(layers, fields) if "name" in it]
         wanted = b"".join(bytes for _, bytes in named)
-        self.assertEqual(mvt.extract(tile, [name for name, _ in named]), wanted)
+        self.assertEqual(libmvt.extract(tile, [name for name, _ in named]), wanted)
 
     def test_as_many_canonical_bytes_as_the_limit(self):
         """A layer's extent isn't there, so the canonical bytes are three more than these."""
         full = bytes.fromhex("1af8ffff1f78020af1ffff1f") + b"a" * 67_108_849
-        self.assertEqual(len(mvt.rewrite(full)), 67_108_864)
-        self.assertEqual(len(mvt.write(mvt.read(full))), 67_108_864)
+        self.assertEqual(len(libmvt.rewrite(full)), 67_108_864)
+        self.assertEqual(len(libmvt.write(libmvt.read(full))), 67_108_864)
         over = bytes.fromhex("1af9ffff1f78020af2ffff1f") + b"a" * 67_108_850
-        for call in (mvt.rewrite, lambda tile: mvt.write(mvt.read(tile))):
-            with self.assertRaises(mvt.TooLarge):
+        for call in (libmvt.rewrite, lambda tile: libmvt.write(libmvt.read(tile))):
+            with self.assertRaises(libmvt.TooLarge):
                 call(over)
 
 
@@ -66,7 +66,7 @@ class Measured(unittest.TestCase):
                 with self.subTest(letter=letter, more=more):
                     name = before + letter * (whole + more)
                     told = before + letter * whole + "…" if len(name.encode()) > 200 else name
-                    builder = mvt.Builder().layer(name).feature("points").tag(name, 1).point(1, 1)
+                    builder = libmvt.Builder().layer(name).feature("points").tag(name, 1).point(1, 1)
                     tile = builder.finish()
                     [(layer, features, size, _, [(key, _)])] = measured(tile)
                     self.assertEqual((layer, key, features, size), (told, told, 1, len(tile)))

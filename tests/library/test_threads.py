@@ -9,7 +9,7 @@ import unittest.mock
 from concurrent.futures import ThreadPoolExecutor
 from pathlib import Path
 
-import mvt
+import libmvt
 
 TILES = Path(__file__).resolve().parents[2] / "fixtures" / "tiles"
 TILE = (TILES / "gdal.mvt").read_bytes()
@@ -18,7 +18,7 @@ MANY = 200_000
 
 def large():
     """A tile that each call works on for a while."""
-    return mvt.Tile([mvt.Layer("a", 4096, [mvt.Feature(n, {"n": n}, "points", [(n % 4096, 1)]) for n in range(MANY)])])
+    return libmvt.Tile([libmvt.Layer("a", 4096, [libmvt.Feature(n, {"n": n}, "points", [(n % 4096, 1)]) for n in range(MANY)])])
 
 
 class Lock(unittest.TestCase):
@@ -54,16 +54,16 @@ class Lock(unittest.TestCase):
         self.assertFalse(self.lets_go(lambda: None))
 
     def test_is_let_go(self):
-        tile = mvt.write(large())
-        rows = mvt.rows(tile)
+        tile = libmvt.write(large())
+        rows = libmvt.rows(tile)
         for call in (
-            lambda: mvt.judge(tile),
-            lambda: mvt.rows(tile),
-            lambda: mvt.rewrite(tile),
-            lambda: mvt.report(tile),
-            lambda: mvt.extract(tile, ["a"]),
-            lambda: mvt.write(rows),
-            lambda: mvt.Decoder().feed(tile),
+            lambda: libmvt.judge(tile),
+            lambda: libmvt.rows(tile),
+            lambda: libmvt.rewrite(tile),
+            lambda: libmvt.report(tile),
+            lambda: libmvt.extract(tile, ["a"]),
+            lambda: libmvt.write(rows),
+            lambda: libmvt.Decoder().feed(tile),
         ):
             self.assertTrue(self.lets_go(call))
 
@@ -79,14 +79,14 @@ class Collector(unittest.TestCase):
 
     def meanwhile(self, call):
         """Reads a tile, and calls what another thread may call before it is read."""
-        made = mvt.Layer.__init__
+        made = libmvt.Layer.__init__
 
         def init(*words, **named):
             call()
             made(*words, **named)
 
-        with unittest.mock.patch.object(mvt.Layer, "__init__", init):
-            mvt.read(TILE)
+        with unittest.mock.patch.object(libmvt.Layer, "__init__", init):
+            libmvt.read(TILE)
 
     def test_runs_again(self):
         rested = []
@@ -103,20 +103,20 @@ class Collector(unittest.TestCase):
         self.assertEqual(gc.get_threshold(), (123, 4, 5))
 
     def test_reads_within_reads(self):
-        self.meanwhile(lambda: mvt.read(b""))
+        self.meanwhile(lambda: libmvt.read(b""))
         self.assertEqual((gc.isenabled(), gc.get_threshold()), (True, self.thresholds))
 
 
 class Shared(unittest.TestCase):
     def test_two_at_a_time(self):
         """Two threads read, write and look at the same rows."""
-        flat, whole, canonical = mvt.rows(TILE), mvt.read(TILE), mvt.rewrite(TILE)
+        flat, whole, canonical = libmvt.rows(TILE), libmvt.read(TILE), libmvt.rewrite(TILE)
 
         def work(number):
             for _ in range(300):
-                self.assertEqual(mvt.read(TILE), whole)
-                self.assertEqual(mvt.write(flat), canonical)
-                self.assertEqual(mvt.write(whole), canonical)
+                self.assertEqual(libmvt.read(TILE), whole)
+                self.assertEqual(libmvt.write(flat), canonical)
+                self.assertEqual(libmvt.write(whole), canonical)
                 self.assertEqual(len([flat.line(part) for part in flat.parts]), len(flat.parts))
             return number
 
@@ -125,7 +125,7 @@ class Shared(unittest.TestCase):
 
     def test_a_builder(self):
         """Where threads finish one builder, one has its tile, and the builder begins anew for the others."""
-        builder = mvt.Builder().layer("a")
+        builder = libmvt.Builder().layer("a")
         for number in range(MANY // 10):
             builder.feature("points", id=number).point(number % 4096, 1)
         told = []

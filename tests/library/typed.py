@@ -2,12 +2,12 @@
 
 from typing import Dict, List, Optional, Sequence, Tuple, Union
 
-import mvt
+import libmvt
 
 
 def use(content: bytes) -> List[int]:
-    flat = mvt.rows(content)
-    first: mvt.LayerRow = flat.layers[0]
+    flat = libmvt.rows(content)
+    first: libmvt.LayerRow = flat.layers[0]
     versions: List[int] = [layer.version for layer in flat.layers]
     places: List[Tuple[int, int]] = [(point.x, point.y) for point in flat.points]
     tags: Sequence[int] = flat.tags
@@ -15,28 +15,28 @@ def use(content: bytes) -> List[int]:
     flat.frame(5)  # type: ignore[arg-type]
     flat.layers[0].name.start = "a"  # type: ignore[assignment]
 
-    tile = mvt.read(content)
-    kinds: List[mvt.Kind] = [feature.kind for feature in tile["water"].features]
-    found: Optional[mvt.Layer] = tile.layer("water")
-    attributes: Dict[str, mvt.Value] = tile["water"].features[0].attributes
-    both: List[Union[mvt.Layer, mvt.Foreign]] = list(tile)
+    tile = libmvt.read(content)
+    kinds: List[libmvt.Kind] = [feature.kind for feature in tile["water"].features]
+    found: Optional[libmvt.Layer] = tile.layer("water")
+    attributes: Dict[str, libmvt.Value] = tile["water"].features[0].attributes
+    both: List[Union[libmvt.Layer, libmvt.Foreign]] = list(tile)
     all_versions: List[int] = [layer.version for layer in tile]
-    names: List[str] = [layer.name for layer in tile if isinstance(layer, mvt.Layer)]
-    sizes: List[int] = [len(tile), len(tile["water"]), mvt.report(content).layers]
+    names: List[str] = [layer.name for layer in tile if isinstance(layer, libmvt.Layer)]
+    sizes: List[int] = [len(tile), len(tile["water"]), libmvt.report(content).layers]
     ids: List[Optional[int]] = [feature.id for feature in tile["water"]]
-    notes: List[mvt.Note] = mvt.report(content).notes
-    text: str = mvt.report(content)
+    notes: List[libmvt.Note] = libmvt.report(content).notes
+    text: str = libmvt.report(content)
     found.extent  # type: ignore[union-attr]
-    mvt.Feature(None, attributes, "circles", [])  # type: ignore[arg-type]
-    mvt.Builder().layer("a").feature("circles")  # type: ignore[arg-type]
-    mvt.Builder().layer("a").feature("points").point(1.5, 2)  # type: ignore[arg-type]
-    built: bytes = mvt.Builder().layer("a").feature("points", id=7).tag("k", 1.5).point(25, 17).finish()
+    libmvt.Feature(None, attributes, "circles", [])  # type: ignore[arg-type]
+    libmvt.Builder().layer("a").feature("circles")  # type: ignore[arg-type]
+    libmvt.Builder().layer("a").feature("points").point(1.5, 2)  # type: ignore[arg-type]
+    built: bytes = libmvt.Builder().layer("a").feature("points", id=7).tag("k", 1.5).point(25, 17).finish()
     try:
-        mvt.judge(content)
-    except mvt.Refused as fault:
+        libmvt.judge(content)
+    except libmvt.Refused as fault:
         where: Tuple[Optional[int], Optional[int]] = (fault.start, fault.end)
         fault.start + 1  # type: ignore[operator]
-        kind: Optional[str] = mvt.looks_like(content)
+        kind: Optional[str] = libmvt.looks_like(content)
         places += [(0, end) for end in where if end is not None and kind is None]
     sizes += [len(ids), len(notes), len(text)]
     return sizes + versions + all_versions + [first.extent, len(places), len(columns), len(tags), len(kinds), len(both), len(names), len(built)]

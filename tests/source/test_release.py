@@ -9,8 +9,8 @@ import pytest
 
 TOP = Path(__file__).resolve().parents[2]
 FILES = [
-    "packaging/release", "library/c/mvt.h", "library/python/pyproject.toml", "tools/pyproject.toml", "library/rust/mvt/Cargo.toml",
-    "library/rust/mvt-sys/Cargo.toml", "crates/mvt_tasks/src/version.rt", "crates/mvt_tasks/specs/Output.antt", "README.md",
+    "packaging/release", "library/c/mvt.h", "library/python/pyproject.toml", "tools/pyproject.toml", "library/rust/libmvt/Cargo.toml",
+    "library/rust/libmvt-sys/Cargo.toml", "crates/mvt_tasks/src/version.rt", "crates/mvt_tasks/specs/Output.antt", "README.md",
     "CHANGELOG.md",
 ]  # fmt: skip
 

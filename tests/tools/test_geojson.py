@@ -17,7 +17,7 @@ import pytest
 from hypothesis import HealthCheck, given, settings
 from hypothesis import strategies as make
 
-import mvt
+import libmvt
 
 TOP = Path(__file__).resolve().parents[2]
 sys.path += [str(TOP / "tests" / "tools" / "audit")]
@@ -38,7 +38,7 @@ def run(*words, module="geojson", stdin=b"", **how):
 
 
 def tile_of(*features, extent=4096, name="a"):
-    return mvt.write(mvt.Tile([mvt.Layer(name, extent, list(features))]))
+    return libmvt.write(libmvt.Tile([libmvt.Layer(name, extent, list(features))]))
 
 
 def area(ring):
@@ -58,7 +58,7 @@ NO_PLACES = [(31, 0, 0), (-1, 0, 0), (0, "0", 0), (0, 10**400, 0), (0, 0, -(10**
 
 class TestToGeojson:
     def test_the_town_lies_where_it_was_drawn(self):
-        found = {each["properties"]["name"]: each for each in mvt.to_geojson(TOWN, *PLACE)["features"]}
+        found = {each["properties"]["name"]: each for each in libmvt.to_geojson(TOWN, *PLACE)["features"]}
         assert len(found) == len(SOURCE["features"])
         for source in SOURCE["features"]:
             made = found[source["properties"]["name"]]
@@ -69,8 +69,8 @@ class TestToGeojson:
             compare_shapes(source["geometry"], made["geometry"], 5.4e-6)
 
     def test_points_are_degrees_with_seven_decimals(self):
-        tile = tile_of(mvt.Feature(None, {}, "points", [(0, 0), (4096, 4096), (17, -5)]))
-        [made] = mvt.to_geojson(tile, *PLACE)["features"]
+        tile = tile_of(libmvt.Feature(None, {}, "points", [(0, 0), (4096, 4096), (17, -5)]))
+        [made] = libmvt.to_geojson(tile, *PLACE)["features"]
         wanted = [[round(each, 7) for each in degrees(*point)] for point in ((0, 0), (4096, 4096), (17, -5))]
         assert made == {
             "type": "Feature", "properties": {}, "layer": "a",
@@ -79,8 +79,8 @@ class TestToGeojson:
 
     def test_rings_are_closed_and_go_as_the_rfc_wants(self):
         ring, hole = [(0, 0), (9, 0), (9, 9), (0, 9)], [(2, 2), (2, 4), (4, 4)]
-        tile = tile_of(mvt.Feature(None, {}, "polygons", [[ring, hole]]))
-        [made] = mvt.to_geojson(tile, *PLACE)["features"]
+        tile = tile_of(libmvt.Feature(None, {}, "polygons", [[ring, hole]]))
+        [made] = libmvt.to_geojson(tile, *PLACE)["features"]
         outer, inner = made["geometry"]["coordinates"]
         assert outer[0] == outer[-1] and inner[0] == inner[-1]
         assert (len(outer), len(inner)) == (5, 4)
@@ -93,21 +93,21 @@ class TestToGeojson:
         extents = data.draw(make.tuples(*[make.sampled_from([256, 512, 4096, 8192])] * 2))
         part = data.draw(make.integers(0, 256))
         one, other = (
-            tile_of(mvt.Feature(None, {}, "points", [(across * extent, part * extent // 256)]), extent=extent)
+            tile_of(libmvt.Feature(None, {}, "points", [(across * extent, part * extent // 256)]), extent=extent)
             for across, extent in zip((1, 0), extents)
         )
         positions = [
-            mvt.to_geojson(tile, z, column, y)["features"][0]["geometry"]["coordinates"]
+            libmvt.to_geojson(tile, z, column, y)["features"][0]["geometry"]["coordinates"]
             for tile, column in ((one, x), (other, x + 1))
         ]
         assert positions[0] == positions[1]
 
     def test_ids_and_numbers(self):
         at = ("points", [(1, 1)])
-        made = mvt.to_geojson(
+        made = libmvt.to_geojson(
             tile_of(
-                mvt.Feature((1 << 53) - 1, {"a": mvt.Float(12.5), "b": mvt.Sint(-7), "c": True}, *at),
-                mvt.Feature(1 << 53, {"a": math.nan, "b": math.inf, "c": (1 << 64) - 1}, *at),
+                libmvt.Feature((1 << 53) - 1, {"a": libmvt.Float(12.5), "b": libmvt.Sint(-7), "c": True}, *at),
+                libmvt.Feature(1 << 53, {"a": math.nan, "b": math.inf, "c": (1 << 64) - 1}, *at),
             ),
             *PLACE,
         )["features"]
@@ -117,48 +117,48 @@ class TestToGeojson:
         assert {type(value) for value in made[0]["properties"].values()} == {float, int, bool}
 
     def test_what_lies_nowhere_is_null(self):
-        unknown = tile_of(mvt.Feature(None, {}, "unknown", [9, 50, 34]))
-        flat = tile_of(mvt.Feature(None, {}, "points", [(1, 1)]), extent=0)
+        unknown = tile_of(libmvt.Feature(None, {}, "unknown", [9, 50, 34]))
+        flat = tile_of(libmvt.Feature(None, {}, "points", [(1, 1)]), extent=0)
         for tile in (unknown, flat):
-            assert mvt.to_geojson(tile, *PLACE)["features"][0]["geometry"] is None
+            assert libmvt.to_geojson(tile, *PLACE)["features"][0]["geometry"] is None
 
     def test_far_points_are_at_the_poles(self):
-        tile = tile_of(mvt.Feature(None, {}, "points", [(0, -(2**31) + 1)]), extent=1)
-        [made] = mvt.to_geojson(tile, 0, 0, 0)["features"]
+        tile = tile_of(libmvt.Feature(None, {}, "points", [(0, -(2**31) + 1)]), extent=1)
+        [made] = libmvt.to_geojson(tile, 0, 0, 0)["features"]
         assert made["geometry"]["coordinates"][1] == 90
 
     def test_layers_by_name(self):
-        assert {each["layer"] for each in mvt.to_geojson(TOWN, *PLACE, layers=["roads"])["features"]} == {"roads"}
-        with pytest.raises(mvt.NoLayer):
-            mvt.to_geojson(TOWN, *PLACE, layers=["rivers"])
+        assert {each["layer"] for each in libmvt.to_geojson(TOWN, *PLACE, layers=["roads"])["features"]} == {"roads"}
+        with pytest.raises(libmvt.NoLayer):
+            libmvt.to_geojson(TOWN, *PLACE, layers=["rivers"])
 
     def test_a_tile_and_its_rows_are_the_same(self):
-        wanted = mvt.to_geojson(TOWN, *PLACE)
-        assert mvt.to_geojson(mvt.read(TOWN), *PLACE) == wanted
-        assert mvt.to_geojson(mvt.rows(TOWN), *PLACE) == wanted
+        wanted = libmvt.to_geojson(TOWN, *PLACE)
+        assert libmvt.to_geojson(libmvt.read(TOWN), *PLACE) == wanted
+        assert libmvt.to_geojson(libmvt.rows(TOWN), *PLACE) == wanted
 
     @pytest.mark.parametrize("place", NO_PLACES)
     def test_what_is_no_place(self, place):
         with pytest.raises(ValueError):
-            mvt.to_geojson(TOWN, *place)
+            libmvt.to_geojson(TOWN, *place)
 
     def test_places_beyond_the_world_are_places(self):
         for place in ((0, 1, 0), (30, (1 << 63) - 1, 1 - (1 << 63))):
-            assert json.dumps(mvt.to_geojson(TOWN, *place), allow_nan=False)
+            assert json.dumps(libmvt.to_geojson(TOWN, *place), allow_nan=False)
 
 
 class TestInterface:
     def test_shapely_takes_features(self):
         geometry = pytest.importorskip("shapely.geometry", reason="shapely isn't there")
-        tile = mvt.read(TOWN)
+        tile = libmvt.read(TOWN)
         for feature in tile["water"].features:
             made = geometry.shape(feature)
             assert made.is_valid and made.area > 0
-        assert geometry.shape(mvt.Feature(None, {}, "unknown", [1])).is_empty
+        assert geometry.shape(libmvt.Feature(None, {}, "unknown", [1])).is_empty
 
     def test_a_layer_is_a_collection(self):
         ring = [(0, 0), (9, 0), (9, 9)]
-        made = mvt.Layer("a", 4096, [mvt.Feature(7, {"b": "c"}, "polygons", [[ring]])]).__geo_interface__
+        made = libmvt.Layer("a", 4096, [libmvt.Feature(7, {"b": "c"}, "polygons", [[ring]])]).__geo_interface__
         geometry = {"type": "Polygon", "coordinates": [[*ring, (0, 0)]]}
         feature = {"type": "Feature", "id": 7, "properties": {"b": "c"}, "geometry": geometry}
         assert made == {"type": "FeatureCollection", "features": [feature]}
@@ -171,7 +171,7 @@ _IDS = make.none() | make.integers(0, (1 << 64) - 1)
 
 
 def _features(kind, drawn):
-    return make.builds(mvt.Feature, _IDS, _ATTRIBUTES, make.just(kind), drawn)
+    return make.builds(libmvt.Feature, _IDS, _ATTRIBUTES, make.just(kind), drawn)
 
 
 def _moves(points):
@@ -270,9 +270,9 @@ class TestFromGeojson:
     @given(_ANY, make.integers(0, 14), make.data())
     def test_there_and_back(self, features, z, data):
         x, y = (data.draw(make.integers(0, (1 << z) - 1)) for _ in "xy")
-        layer = mvt.Layer("a", 4096, [each for each in features])
-        found = json.loads(json.dumps(mvt.to_geojson(mvt.Tile([layer]), z, x, y)))
-        made = mvt.from_geojson(found, z, x, y, name="a")
+        layer = libmvt.Layer("a", 4096, [each for each in features])
+        found = json.loads(json.dumps(libmvt.to_geojson(libmvt.Tile([layer]), z, x, y)))
+        made = libmvt.from_geojson(found, z, x, y, name="a")
         # What touches the map's edge from beyond isn't there any more; within the map all is the same.
         if all(y * 4096 + below <= 4096 << z for below in _rows(features)):
             assert made == layer
@@ -282,10 +282,10 @@ class TestFromGeojson:
     @given(_OBJECTS, make.integers(0, 12), make.data())
     def test_a_valid_tile_of_anything(self, objects, z, data):
         x, y = (data.draw(make.integers(0, (1 << z) - 1)) for _ in "xy")
-        layer = mvt.from_geojson({"type": "FeatureCollection", "features": objects}, z, x, y)
-        tile = mvt.write(mvt.Tile([layer]))
-        mvt.judge(tile)
-        assert mvt.read(tile)["features"] == layer
+        layer = libmvt.from_geojson({"type": "FeatureCollection", "features": objects}, z, x, y)
+        tile = libmvt.write(libmvt.Tile([layer]))
+        libmvt.judge(tile)
+        assert libmvt.read(tile)["features"] == layer
 
     def test_what_vanishes_is_counted(self):
         near = [[0.0, 0.0], [0.00000001, 0.0], [0.00000001, 0.00000001], [0.0, 0.0]]
@@ -298,58 +298,58 @@ class TestFromGeojson:
             None,
         ]
         features = [{"type": "Feature", "id": "x", "properties": {}, "geometry": each} for each in geometries]
-        layer = mvt.from_geojson(features, *PLACE)
+        layer = libmvt.from_geojson(features, *PLACE)
         assert [feature.kind for feature in layer.features] == ["polygons", "points"]
         # Three points of each of four, beside the one that is left.
-        assert layer.vanished == mvt.Vanished(points=12, parts=3, features=3, ids=2)
+        assert layer.vanished == libmvt.Vanished(points=12, parts=3, features=3, ids=2)
 
     def test_rings_that_go_the_wrong_way_are_turned(self):
         outer = [[0, 0], [0, 0.01], [0.01, 0.01], [0.01, 0], [0, 0]]
         hole = [[0.002, 0.002], [0.004, 0.002], [0.004, 0.004], [0.002, 0.002]]
         for rings in ([outer, hole], [outer[::-1], hole[::-1]]):
-            layer = mvt.from_geojson({"type": "Polygon", "coordinates": rings}, *PLACE)
-            mvt.judge(mvt.write(mvt.Tile([layer])))
+            layer = libmvt.from_geojson({"type": "Polygon", "coordinates": rings}, *PLACE)
+            libmvt.judge(libmvt.write(libmvt.Tile([layer])))
             [[first, second]] = layer.features[0].geometry
             assert area([*first, first[0]]) > 0 > area([*second, second[0]])
 
     def test_properties_and_ids(self):
         properties = {"a": None, "b": [1, "é"], "c": {"d": 1}, "e": 1 << 70, "f": "\ud800", "g": -5}
         feature = {"type": "Feature", "id": "9007199254740993", "properties": properties}
-        layer = mvt.from_geojson({**feature, "geometry": {"type": "Point", "coordinates": [0, 0, 5]}}, *PLACE)
+        layer = libmvt.from_geojson({**feature, "geometry": {"type": "Point", "coordinates": [0, 0, 5]}}, *PLACE)
         [made] = layer.features
         assert made.id == 9007199254740993
         assert made.attributes == {"b": '[1, "é"]', "c": '{"d": 1}', "e": 2.0**70, "f": "\ufffd", "g": -5}
-        mvt.judge(mvt.write(mvt.Tile([layer])))
+        libmvt.judge(libmvt.write(libmvt.Tile([layer])))
 
     def test_latitudes_beyond_the_map_are_at_its_edge(self):
-        layer = mvt.from_geojson({"type": "MultiPoint", "coordinates": [[0, 90], [0, -90]]}, 0, 0, 0)
+        layer = libmvt.from_geojson({"type": "MultiPoint", "coordinates": [[0, 90], [0, -90]]}, 0, 0, 0)
         assert layer.features[0].geometry == [(2048, 0), (2048, 4096)]
 
     def test_shapely_is_taken(self):
         geometry = pytest.importorskip("shapely.geometry", reason="shapely isn't there")
-        layer = mvt.from_geojson([geometry.Point(0, 0), geometry.box(0, 0, 0.01, 0.01)], *PLACE)
+        layer = libmvt.from_geojson([geometry.Point(0, 0), geometry.box(0, 0, 0.01, 0.01)], *PLACE)
         assert [feature.kind for feature in layer.features] == ["points", "polygons"]
 
     @pytest.mark.parametrize("what", NO_GEOJSON, ids=lambda what: ascii(what)[:60])
     def test_what_is_no_geojson(self, what):
         with pytest.raises(ValueError):
-            mvt.from_geojson(what, *PLACE)
+            libmvt.from_geojson(what, *PLACE)
 
     @pytest.mark.parametrize("place", NO_PLACES)
     def test_what_is_no_place(self, place):
         with pytest.raises(ValueError):
-            mvt.from_geojson([], *place)
+            libmvt.from_geojson([], *place)
 
     @pytest.mark.parametrize("extent", [0, -1, 1 << 32, 10**400])
     def test_what_is_no_extent(self, extent):
         with pytest.raises(ValueError):
-            mvt.from_geojson([], 0, 0, 0, extent)
+            libmvt.from_geojson([], 0, 0, 0, extent)
 
     @pytest.mark.parametrize("far", [179, 1e308, -1e308, 10**309, -(10**4000)])
     def test_too_far_from_the_tile(self, far):
         for place in ((30, 0, 0), (30, 0, 1 << 29)):
-            with pytest.raises(mvt.OutOfRange):
-                mvt.from_geojson({"type": "Point", "coordinates": [far, 0]}, *place)
+            with pytest.raises(libmvt.OutOfRange):
+                libmvt.from_geojson({"type": "Point", "coordinates": [far, 0]}, *place)
 
     @pytest.mark.parametrize("kind", ["MultiPoint", "LineString", "MultiLineString", "Polygon"])
     def test_too_far_from_one_another(self, kind):
@@ -358,22 +358,22 @@ class TestFromGeojson:
         drawn = {"MultiPoint": ends, "LineString": ends, "MultiLineString": [ends[:1] * 2, ends], "Polygon": [[*ends, ends[0]]]}
         place = (30, 1 << 29, 1 << 29)
         for each in ends:
-            mvt.from_geojson({"type": "Point", "coordinates": each}, *place)
-        with pytest.raises(mvt.OutOfRange):
-            mvt.from_geojson({"type": kind, "coordinates": drawn[kind]}, *place)
+            libmvt.from_geojson({"type": "Point", "coordinates": each}, *place)
+        with pytest.raises(libmvt.OutOfRange):
+            libmvt.from_geojson({"type": kind, "coordinates": drawn[kind]}, *place)
 
     def test_numbers_of_any_kind_are_positions(self):
         numpy = pytest.importorskip("numpy", reason="numpy isn't there")
-        wanted = mvt.from_geojson({"type": "MultiPoint", "coordinates": [[1, 2], [3.5, 4.5]]}, *(numpy.int64(each) for each in (0, 0, 0)))
+        wanted = libmvt.from_geojson({"type": "MultiPoint", "coordinates": [[1, 2], [3.5, 4.5]]}, *(numpy.int64(each) for each in (0, 0, 0)))
         given = numpy.array([[1, 2], [3.5, 4.5]], "f4")
         for coordinates in (given, given.tolist(), [tuple(map(decimal.Decimal, map(str, each))) for each in given.tolist()]):
-            assert mvt.from_geojson({"type": "MultiPoint", "coordinates": coordinates}, 0, 0, 0) == wanted
+            assert libmvt.from_geojson({"type": "MultiPoint", "coordinates": coordinates}, 0, 0, 0) == wanted
 
     def test_large_properties_and_ids(self):
         at = {"type": "Point", "coordinates": [0, 0]}
         properties = {"a": 10**400, "b": -(10**400), "c": 10**5000}
         for id in (10**5000, -1, 1 << 64, 1e300, True, [[[]]], {"a": 1}, "1" * 5000):
-            layer = mvt.from_geojson({"type": "Feature", "id": id, "properties": properties, "geometry": at}, *PLACE)
+            layer = libmvt.from_geojson({"type": "Feature", "id": id, "properties": properties, "geometry": at}, *PLACE)
             assert layer.features[0].attributes == {"a": math.inf, "b": -math.inf, "c": math.inf}
             assert (layer.features[0].id, layer.vanished.ids) == (None, 1)
 
@@ -381,10 +381,10 @@ class TestFromGeojson:
     @given(_JSON | make.lists(_SPOILED, max_size=3) | _SPOILED, make.sampled_from([(0, 0, 0), PLACE, (30, 1 << 29, 1 << 29)]))
     def test_any_json_is_a_layer_or_refused(self, given, place):
         try:
-            layer = mvt.from_geojson(given, *place)
-        except (ValueError, mvt.OutOfRange):
+            layer = libmvt.from_geojson(given, *place)
+        except (ValueError, libmvt.OutOfRange):
             return
-        mvt.judge(mvt.write(mvt.Tile([layer])))
+        libmvt.judge(libmvt.write(libmvt.Tile([layer])))
 
 
 def _rows(features):
@@ -432,7 +432,7 @@ def server():
         serving.shutdown()
 
 
-WANTED = json.dumps(mvt.to_geojson(TOWN, *PLACE), sort_keys=True)
+WANTED = json.dumps(libmvt.to_geojson(TOWN, *PLACE), sort_keys=True)
 
 
 class TestCommands:
@@ -481,7 +481,7 @@ class TestCommands:
         assert [each["layer"] for each in features] == ["roads"] * 2 + ["water"] * 2
 
     def test_units_precision_and_tippecanoe(self):
-        _, out, _ = run("--units", "tile", "--seq", stdin=tile_of(mvt.Feature(None, {}, "points", [(5, 9)])))
+        _, out, _ = run("--units", "tile", "--seq", stdin=tile_of(libmvt.Feature(None, {}, "points", [(5, 9)])))
         assert json.loads(out)["geometry"] == {"type": "Point", "coordinates": [5, 9]}
         _, out, _ = run("14/8192/8191", "--precision", "2", "--tippecanoe", "--layer", "places", stdin=TOWN)
         made = json.loads(out)["features"][0]
@@ -495,7 +495,7 @@ class TestCommands:
         assert errors.count("A line goes nowhere") == 1
 
     def test_what_is_null_is_told_once(self):
-        feature = mvt.Feature(None, {"a": math.nan}, "points", [(1, 1)])
+        feature = libmvt.Feature(None, {"a": math.nan}, "points", [(1, 1)])
         status, out, errors = run("0/0/0", stdin=tile_of(feature, feature))
         assert (status, errors.count("\n")) == (0, 1) and "null" in errors
         assert [each["properties"] for each in json.loads(out)["features"]] == [{"a": None}] * 2
@@ -526,7 +526,7 @@ class TestCommands:
             assert (got, out, errors.count("\n")) == (1, b"", 1)
 
     def test_no_front_of_a_larger_tile_is_written(self, tmp_path):
-        content = b"\x7a" + bytes(mvt.LIMIT + (3 << 20))
+        content = b"\x7a" + bytes(libmvt.LIMIT + (3 << 20))
         (tmp_path / "plain.mvt").write_bytes(content)
         (tmp_path / "packed.mvt").write_bytes(gzip.compress(content, 1))
         make_tree(tmp_path / "tree", {(0, 0, 0): content})
@@ -537,7 +537,7 @@ class TestCommands:
         assert run("packed.mvt", "--raw", module="tile", cwd=tmp_path)[:2] == (0, (tmp_path / "packed.mvt").read_bytes())
 
     def test_a_reader_who_is_gone_ends_it_silently(self):
-        feature = mvt.Feature(None, {"a": "b" * 1000}, "points", [(1, 1)])
+        feature = libmvt.Feature(None, {"a": "b" * 1000}, "points", [(1, 1)])
         words = f"{sys.executable} -m mvt_tools.geojson 0/0/0 --seq | head -c 10"
         done = subprocess.run(["bash", "-c", words], input=tile_of(*[feature] * 2000), capture_output=True, timeout=60)
         assert (len(done.stdout), done.stderr) == (10, b"")
@@ -556,7 +556,7 @@ class TestCommands:
 
     def test_many_features_take_the_memory_of_their_rows(self):
         # Their GeoJSON has some 13 MB, which is nowhere at once.
-        builder = mvt.Builder().layer("a")
+        builder = libmvt.Builder().layer("a")
         for number in range(100_000):
             builder.feature("points", id=number).point(1, 1)
         tile = builder.finish()
@@ -597,9 +597,9 @@ def made_feature(number):
 @pytest.mark.skipif(shutil.which("ogr2ogr") is None, reason="ogr2ogr isn't there")
 def test_ten_thousand_features_are_read_back_by_gdal(tmp_path):
     made = [made_feature(number) for number in range(10_000)]
-    layer = mvt.from_geojson({"type": "FeatureCollection", "features": made}, *PLACE)
+    layer = libmvt.from_geojson({"type": "FeatureCollection", "features": made}, *PLACE)
     assert (len(layer), layer.vanished) == (10_000, (0, 0, 0, 0))
-    (tmp_path / "a.mvt").write_bytes(mvt.write(mvt.Tile([layer])))
+    (tmp_path / "a.mvt").write_bytes(libmvt.write(libmvt.Tile([layer])))
     place = [word for each in (*(f"{name}={number}" for name, number in zip("ZXY", PLACE)), "CLIP=NO") for word in ("-oo", each)]
     out = tmp_path / "out.geojson"
     gdal("-f", "GeoJSON", "-lco", "RFC7946=YES", "-lco", "COORDINATE_PRECISION=9", out, f"MVT:{tmp_path / 'a.mvt'}", *place)

@@ -51,8 +51,8 @@ def by_cpp():
 
 def by_python():
     def make(path):
-        shutil.copytree(TOP / "library/python/mvt", path / "mvt", ignore=shutil.ignore_patterns("*.so"))
-        shutil.copy(BUILT / "_mvt.abi3.so", path / "mvt")
+        shutil.copytree(TOP / "library/python/libmvt", path / "libmvt", ignore=shutil.ignore_patterns("*.so"))
+        shutil.copy(BUILT / "_mvt.abi3.so", path / "libmvt")
 
     environment = {**os.environ, "PYTHONPATH": str(made("module", make))}
     return run(sys.executable, HERE / "built.py", env=environment, text=False).stdout
@@ -61,8 +61,8 @@ def by_python():
 def by_rust():
     def make(path):
         shutil.copytree(TOP / "library/rust", path, ignore=shutil.ignore_patterns("prebuilt"))
-        (path / "mvt/examples").mkdir()
-        shutil.copy(HERE / "built.rs", path / "mvt/examples")
+        (path / "libmvt/examples").mkdir()
+        shutil.copy(HERE / "built.rs", path / "libmvt/examples")
 
     crate = made("rust-with-example", make)
     environment = {**os.environ, "MVT_LIB_DIR": str(BUILT), "CARGO_TARGET_DIR": str(crate / "target")}

@@ -5,7 +5,7 @@ import sqlite3
 import sys
 from typing import Any, BinaryIO, Callable, NoReturn, Optional, Sequence, Tuple
 
-from mvt import MvtError, NoLayer, Refused
+from libmvt import MvtError, NoLayer, Refused
 
 from . import bounds
 from ._ending import MEMORY, UNREAD, USAGE, Output, bound_memory, hold_places, of_system, say

@@ -1,6 +1,6 @@
 """What the tiles and stores of strangers may cost: the bounds of these commands, each with its reason."""
 
-from mvt import LIMIT
+from libmvt import LIMIT
 
 # ---- memory
 

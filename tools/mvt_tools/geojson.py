@@ -5,8 +5,8 @@ import json
 import sys
 from typing import Any, Dict, Iterator, List, Optional, Sequence, Set
 
-from mvt import rows
-from mvt.geojson.making import DECIMALS, Part, objects_of, parts_of
+from libmvt import rows
+from libmvt.geojson.making import DECIMALS, Part, objects_of, parts_of
 
 from . import _given, foreign
 from ._ending import USAGE, Output, say

@@ -4,7 +4,7 @@ import argparse
 import sys
 from typing import Optional, Sequence
 
-from mvt import LIMIT
+from libmvt import LIMIT
 
 from . import _given
 from ._ending import USAGE, Output

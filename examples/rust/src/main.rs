@@ -3,10 +3,10 @@
 use std::io::Read;
 use std::process::ExitCode;
 
-fn weigh(bytes: &[u8]) -> Result<(), mvt::Error> {
-    let tile = mvt::read(bytes)?;
+fn weigh(bytes: &[u8]) -> Result<(), libmvt::Error> {
+    let tile = libmvt::read(bytes)?;
     for layer in tile.layers().filter(|layer| layer.version() == 2) {
-        let alone = mvt::extract(bytes, &[layer.name()])?;
+        let alone = libmvt::extract(bytes, &[layer.name()])?;
         println!("{:>10}  {}", alone.len(), layer.name());
     }
     Ok(())

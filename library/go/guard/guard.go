@@ -16,7 +16,7 @@ import (
 	"net/url"
 	"strings"
 
-	"huranvi.example/mvt"
+	"huranvi.example/libmvt"
 )
 
 // New is a handler that hands requests on to a server, and judges each answer of a status from 200 to 299 but 204, which has
@@ -74,7 +74,7 @@ func (u *unfit) Error() string { return u.why }
 
 // words are what a client is told.
 func words(err error) string {
-	var refused *mvt.Refused
+	var refused *libmvt.Refused
 	var other *unfit
 	switch {
 	case errors.As(err, &refused):
@@ -97,7 +97,7 @@ func judge(response *http.Response) error {
 		return nil
 	}
 	// What is larger as it is stored is larger unpacked, or no gzip worth the name.
-	stored, err := io.ReadAll(io.LimitReader(response.Body, mvt.Limit+1))
+	stored, err := io.ReadAll(io.LimitReader(response.Body, libmvt.Limit+1))
 	if err != nil {
 		return &unfit{"the tile server's answer ends early"}
 	}
@@ -106,7 +106,7 @@ func judge(response *http.Response) error {
 	if err != nil {
 		return err
 	}
-	if err := mvt.Judge(tile); err != nil {
+	if err := libmvt.Judge(tile); err != nil {
 		return err
 	}
 	response.Body = io.NopCloser(bytes.NewReader(stored))
@@ -126,7 +126,7 @@ func unpacked(stored []byte, encoding string) ([]byte, error) {
 	reader, err := gzip.NewReader(bytes.NewReader(stored))
 	if err == nil {
 		var tile []byte
-		if tile, err = io.ReadAll(io.LimitReader(reader, mvt.Limit+1)); err == nil {
+		if tile, err = io.ReadAll(io.LimitReader(reader, libmvt.Limit+1)); err == nil {
 			return tile, nil
 		}
 	}

@@ -11,7 +11,7 @@ import (
 	"strings"
 	"testing"
 
-	"huranvi.example/mvt"
+	"huranvi.example/libmvt"
 )
 
 var (
@@ -43,7 +43,7 @@ var answers = map[string]struct {
 	"/no-gzip":        {good, "gzip"},
 	"/brotli":         {good, "br"},
 	// An unknown field with so many bytes.
-	"/large": {packed(append([]byte{0x7a, 0x80, 0x80, 0x80, 0x20}, make([]byte, mvt.Limit)...)), ""},
+	"/large": {packed(append([]byte{0x7a, 0x80, 0x80, 0x80, 0x20}, make([]byte, libmvt.Limit)...)), ""},
 }
 
 func serve(w http.ResponseWriter, r *http.Request) {

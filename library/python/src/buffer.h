@@ -17,7 +17,7 @@ typedef struct {
 
 enum { SLOT_GETBUFFER = 1, TO_WRITE = 1, WITH_FORMAT = 4, WITH_SHAPE = 8, WITH_STRIDES = 16 };
 
-#define READ_ONLY "the rows of a tile are read only: mvt.Rows.from_arrays makes others"
+#define READ_ONLY "the rows of a tile are read only: libmvt.Rows.from_arrays makes others"
 
 /* Lends the memory of an object: rows of a list, or one row where `shape` is NULL. */
 static inline int lend(buffer *out, int flags, PyObject *owner, void *data, Py_ssize_t *shape, Py_ssize_t *size,

@@ -163,7 +163,7 @@ static PyMethodDef METHODS[] = {
 static const char DOC[] =
     "Builder()\n--\n\n"
     "Makes a tile step by step: begin a layer, begin a feature, add its tags and its points, and finish.\n\n"
-    "    builder = mvt.Builder()\n"
+    "    builder = libmvt.Builder()\n"
     "    builder.layer(\"places\")\n"
     "    builder.feature(\"points\", id=7).tag(\"name\", \"Mill Pond\").point(25, 17)\n"
     "    tile = builder.finish()\n\n"
@@ -176,4 +176,4 @@ static PyType_Slot SLOTS[] = {{Py_tp_new, builder_new},         {Py_tp_init, bui
                               {Py_tp_dealloc, builder_dealloc}, {Py_tp_methods, METHODS},
                               {Py_tp_members, MEMBERS},         {Py_tp_doc, (void *)DOC},
                               {0, NULL}};
-PyType_Spec BUILDER_SPEC = {"mvt.Builder", sizeof(builder), 0, Py_TPFLAGS_DEFAULT | Py_TPFLAGS_BASETYPE, SLOTS};
+PyType_Spec BUILDER_SPEC = {"libmvt.Builder", sizeof(builder), 0, Py_TPFLAGS_DEFAULT | Py_TPFLAGS_BASETYPE, SLOTS};

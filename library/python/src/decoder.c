@@ -136,4 +136,4 @@ static PyType_Slot SLOTS[] = {{Py_tp_new, decoder_new},         {Py_tp_init, dec
                               {Py_tp_dealloc, decoder_dealloc}, {Py_tp_methods, METHODS},
                               {Py_tp_members, MEMBERS},         {Py_tp_doc, (void *)DOC},
                               {0, NULL}};
-PyType_Spec DECODER_SPEC = {"mvt.Decoder", sizeof(decoder), 0, Py_TPFLAGS_DEFAULT | Py_TPFLAGS_BASETYPE, SLOTS};
+PyType_Spec DECODER_SPEC = {"libmvt.Decoder", sizeof(decoder), 0, Py_TPFLAGS_DEFAULT | Py_TPFLAGS_BASETYPE, SLOTS};

@@ -143,14 +143,14 @@ static PyObject *flat_array(PyObject *self, PyObject *words, PyObject *named) {
     PyObject *name;
     if (!PyArg_ParseTupleAndKeywords(words, named, "U:array", known, &name)) return NULL;
     PyObject *rows = PyObject_GetAttr(self, name);
-    return rows == NULL ? NULL : of_numpy("mvt._arrays", "array_over", Py_BuildValue("(ON)", name, rows));
+    return rows == NULL ? NULL : of_numpy("libmvt._arrays", "array_over", Py_BuildValue("(ON)", name, rows));
 }
 
 static PyObject *flat_frame(PyObject *self, PyObject *words, PyObject *named) {
     static char *known[] = {"layer", "keys", NULL};
     PyObject *layer, *keys = Py_None;
     if (!PyArg_ParseTupleAndKeywords(words, named, "O|O:frame", known, &layer, &keys)) return NULL;
-    return of_numpy("mvt._frames", "frame_of", Py_BuildValue("(OOO)", self, layer, keys));
+    return of_numpy("libmvt._frames", "frame_of", Py_BuildValue("(OOO)", self, layer, keys));
 }
 
 static PyObject *flat_from_arrays(PyObject *type, PyObject *words, PyObject *named) {
@@ -160,7 +160,7 @@ static PyObject *flat_from_arrays(PyObject *type, PyObject *words, PyObject *nam
     }
     state *of = state_of_type((PyTypeObject *)type);
     PyObject *arrays = of == NULL ? NULL : named != NULL ? PyDict_Copy(named) : PyDict_New();
-    PyObject *contents = arrays == NULL ? NULL : of_numpy("mvt._arrays", "contents_of", Py_BuildValue("(N)", arrays));
+    PyObject *contents = arrays == NULL ? NULL : of_numpy("libmvt._arrays", "contents_of", Py_BuildValue("(N)", arrays));
     PyObject *made = contents == NULL ? NULL : flat_of_contents(of, contents);
     Py_XDECREF(contents);
     return made;
@@ -220,7 +220,7 @@ static PyMethodDef FLAT_METHODS[] = {
     {"from_arrays", (PyCFunction)(void (*)(void))flat_from_arrays, METH_VARARGS | METH_KEYWORDS | METH_CLASS,
      "from_arrays($type, /, **arrays)\n--\n\n"
      "Rows made of numpy arrays (or of what numpy makes arrays of), one for each list, by the name of the list.\n\n"
-     "The fields of an array of rows are those of `mvt.dtype(name)`. Keys, parts and points may also be given as\n"
+     "The fields of an array of rows are those of `libmvt.dtype(name)`. Keys, parts and points may also be given as\n"
      "numbers, with a row for each and a column for each number: `points` as x and y. `texts` may be bytes. A list\n"
      "that isn't named is empty. The arrays are copied. Raises OverflowError for a number that a row has no room for."},
     {"_lent", flat_lent, METH_NOARGS, "_lent($self)\n--\n\nThe bytes of each list, over the library's memory."},
@@ -255,4 +255,4 @@ static PyType_Slot FLAT_SLOTS[] = {{Py_tp_new, never_new},          {Py_tp_deall
                                    {Py_tp_methods, FLAT_METHODS},   {Py_tp_getset, FLAT_LISTS},
                                    {Py_tp_members, FLAT_MEMBERS},   {Py_tp_doc, (void *)FLAT_DOC},
                                    {0, NULL}};
-PyType_Spec FLAT_SPEC = {"mvt.Rows", sizeof(flat), 0, Py_TPFLAGS_DEFAULT, FLAT_SLOTS};
+PyType_Spec FLAT_SPEC = {"libmvt.Rows", sizeof(flat), 0, Py_TPFLAGS_DEFAULT, FLAT_SLOTS};

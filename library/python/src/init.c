@@ -1,4 +1,4 @@
-/* The module mvt._mvt: what an interpreter has of it. */
+/* The module libmvt._mvt: what an interpreter has of it. */
 #include "module.h"
 
 static int execute(PyObject *module);
@@ -14,8 +14,8 @@ static PyModuleDef_Slot FORMER_SLOTS[] = {{Py_mod_exec, execute}, {0, NULL}};
 #define MODULE_OF(slots)                                  \
     {                                                     \
         PyModuleDef_HEAD_INIT,                            \
-        .m_name = "mvt._mvt",                             \
-        .m_doc = "The proved library, for the module mvt.", \
+        .m_name = "libmvt._mvt",                             \
+        .m_doc = "The proved library, for the module libmvt.", \
         .m_size = sizeof(state),                          \
         .m_slots = slots,                                 \
         .m_traverse = traverse,                           \
@@ -60,7 +60,7 @@ void given_back(PyObject *object) {
 
 PyObject *never_new(PyTypeObject *type, PyObject *words, PyObject *named) {
     (void)words, (void)named;
-    PyErr_Format(PyExc_TypeError, "%R is made by the calls of mvt alone", (PyObject *)type);
+    PyErr_Format(PyExc_TypeError, "%R is made by the calls of libmvt alone", (PyObject *)type);
     return NULL;
 }
 
@@ -73,20 +73,20 @@ typedef struct {
 #define WANTED(module, name, field) {module, name, offsetof(state, field)}
 
 static const wanted CLASSES[] = {
-    WANTED("mvt._tiles", "Tile", tile),
-    WANTED("mvt._tiles", "Layer", layer),
-    WANTED("mvt._tiles", "Foreign", foreign),
-    WANTED("mvt._tiles", "Feature", feature),
-    WANTED("mvt._values", "Float", single),
-    WANTED("mvt._values", "Int", signed_int),
-    WANTED("mvt._values", "Uint", uint),
-    WANTED("mvt._values", "Sint", sint),
-    WANTED("mvt._errors", "MvtError", error),
-    WANTED("mvt._errors", "Refused", refused),
-    WANTED("mvt._errors", "TooLarge", too_large),
-    WANTED("mvt._errors", "NoLayer", no_layer),
-    WANTED("mvt._errors", "NoTile", no_tile),
-    WANTED("mvt._errors", "OutOfRange", out_of_range),
+    WANTED("libmvt._tiles", "Tile", tile),
+    WANTED("libmvt._tiles", "Layer", layer),
+    WANTED("libmvt._tiles", "Foreign", foreign),
+    WANTED("libmvt._tiles", "Feature", feature),
+    WANTED("libmvt._values", "Float", single),
+    WANTED("libmvt._values", "Int", signed_int),
+    WANTED("libmvt._values", "Uint", uint),
+    WANTED("libmvt._values", "Sint", sint),
+    WANTED("libmvt._errors", "MvtError", error),
+    WANTED("libmvt._errors", "Refused", refused),
+    WANTED("libmvt._errors", "TooLarge", too_large),
+    WANTED("libmvt._errors", "NoLayer", no_layer),
+    WANTED("libmvt._errors", "NoTile", no_tile),
+    WANTED("libmvt._errors", "OutOfRange", out_of_range),
     WANTED("gc", "isenabled", is_collecting),
     WANTED("gc", "get_threshold", thresholds),
     WANTED("gc", "set_threshold", set_thresholds),

@@ -98,7 +98,7 @@ static PyType_Slot LIST_SLOTS[] = {{Py_tp_new, never_new},
                                    {Py_tp_doc, "A list of rows over memory that it keeps."},
                                    {SLOT_GETBUFFER, list_lends},
                                    {0, NULL}};
-PyType_Spec LIST_SPEC = {"mvt._mvt.List", sizeof(list), 0, Py_TPFLAGS_DEFAULT, LIST_SLOTS};
+PyType_Spec LIST_SPEC = {"libmvt._mvt.List", sizeof(list), 0, Py_TPFLAGS_DEFAULT, LIST_SLOTS};
 
 /* Bytes that the owner keeps. */
 PyObject *lent_of(state *of, PyObject *owner, const void *data, size_t len) {
@@ -118,4 +118,4 @@ static void held_dealloc(PyObject *self) {
 held *new_held(const state *of) { return (held *)allocated(of->held); }
 
 static PyType_Slot HELD_SLOTS[] = {{Py_tp_new, never_new}, {Py_tp_dealloc, held_dealloc}, {0, NULL}};
-PyType_Spec HELD_SPEC = {"mvt._mvt.Held", sizeof(held), 0, Py_TPFLAGS_DEFAULT, HELD_SLOTS};
+PyType_Spec HELD_SPEC = {"libmvt._mvt.Held", sizeof(held), 0, Py_TPFLAGS_DEFAULT, HELD_SLOTS};

@@ -1,4 +1,4 @@
-/* The module mvt for Python, over mvt.h: what its files share. */
+/* The module libmvt for Python, over mvt.h: what its files share. */
 #ifndef MVT_PYTHON_MODULE_H
 #define MVT_PYTHON_MODULE_H
 

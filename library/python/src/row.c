@@ -31,13 +31,13 @@ static const struct {
     const field *fields;
     size_t size;
 } STRUCTURES[ROWS] = {
-    [SPAN] = {"mvt.Span", "Rows that belong to another: where they begin in the list of their kind, and how many.",
+    [SPAN] = {"libmvt.Span", "Rows that belong to another: where they begin in the list of their kind, and how many.",
               SPAN_FIELDS, sizeof(mvt_span)},
-    [LAYER] = {"mvt.LayerRow", "A layer: mvt_layer of mvt.h.", LAYER_FIELDS, sizeof(mvt_layer)},
-    [FEATURE] = {"mvt.FeatureRow", "A feature: mvt_feature of mvt.h.", FEATURE_FIELDS, sizeof(mvt_feature)},
-    [VALUE] = {"mvt.ValueRow", "A value: mvt_value of mvt.h.", VALUE_FIELDS, sizeof(mvt_value)},
-    [PART] = {"mvt.PartRow", "A line, a ring or points: mvt_part of mvt.h.", PART_FIELDS, sizeof(mvt_part)},
-    [POINT] = {"mvt.PointRow", "A position: mvt_point of mvt.h.", POINT_FIELDS, sizeof(mvt_point)},
+    [LAYER] = {"libmvt.LayerRow", "A layer: mvt_layer of mvt.h.", LAYER_FIELDS, sizeof(mvt_layer)},
+    [FEATURE] = {"libmvt.FeatureRow", "A feature: mvt_feature of mvt.h.", FEATURE_FIELDS, sizeof(mvt_feature)},
+    [VALUE] = {"libmvt.ValueRow", "A value: mvt_value of mvt.h.", VALUE_FIELDS, sizeof(mvt_value)},
+    [PART] = {"libmvt.PartRow", "A line, a ring or points: mvt_part of mvt.h.", PART_FIELDS, sizeof(mvt_part)},
+    [POINT] = {"libmvt.PointRow", "A position: mvt_point of mvt.h.", POINT_FIELDS, sizeof(mvt_point)},
 };
 
 size_t row_size(int kind) { return STRUCTURES[kind].size; }

@@ -5,7 +5,7 @@ import gzip
 import sys
 from pathlib import Path
 
-import mvt
+import libmvt
 from common import EVIDENCE, FOUND, at_places, audit, example_tiles, make_mbtiles
 from wire import field, packed
 
@@ -14,8 +14,8 @@ def hostile():
     """Tiles whose texts would do harm in a page that took them as they are: a whole one, one with a large id, and one with a
     broken second layer."""
     text = "<script>document.title='taken'</script><img src=x onerror=\"document.title='taken'\">&amp;"
-    features = [mvt.Feature(id, {text: text}, "lines", [[(0, 0), (4096, 4096)]]) for id in (7, 1 << 60)]
-    whole, large = (mvt.write(mvt.Tile([mvt.Layer(text, 4096, [feature])])) for feature in features)
+    features = [libmvt.Feature(id, {text: text}, "lines", [[(0, 0), (4096, 4096)]]) for id in (7, 1 << 60)]
+    whole, large = (libmvt.write(libmvt.Tile([libmvt.Layer(text, 4096, [feature])])) for feature in features)
     feature = field(3, 2) + field(4, packed([9, 4, 4, 10, 0, 0]))
     return whole, large, field(3, field(15, 2) + field(1, text.encode()) + field(2, feature))
 

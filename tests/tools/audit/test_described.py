@@ -6,13 +6,13 @@ import sqlite3
 from contextlib import closing
 
 import archives
-import mvt
+import libmvt
 import pytest
 from common import audit, example_tiles, make_mbtiles, make_tree
 from mvt_tools.audit import described
 
-FEATURE = mvt.Feature(None, {"name": "x", "depth": 1}, "points", [(1, 1)])
-TILE = mvt.write(mvt.Tile([mvt.Layer("water", 4096, [FEATURE])]))
+FEATURE = libmvt.Feature(None, {"name": "x", "depth": 1}, "points", [(1, 1)])
+TILE = libmvt.write(libmvt.Tile([libmvt.Layer("water", 4096, [FEATURE])]))
 # Two tiles at the middle of the world, and what is true of them.
 TILES = {(2, 1, 1): TILE, (3, 3, 3): TILE}
 TRUE = {

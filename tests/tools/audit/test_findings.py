@@ -13,7 +13,7 @@ import archives
 from common import EVIDENCE, FOUND, TOP, Case, at_places, audit, example_tiles, json, make_mbtiles, make_tree, packings, rows
 from evidence import layer, line, point, tile
 from wire import field
-from mvt import Finding
+from libmvt import Finding
 from mvt_tools import stores
 from mvt_tools.audit.judging import Judge, Row, Said, judged, judged_part
 from mvt_tools.audit.results import Block, Results
@@ -173,7 +173,7 @@ class Tiles(unittest.TestCase):
 
         judge = Judge()
         judge._look = look
-        with patch("mvt.judge", look):
+        with patch("libmvt.judge", look):
             self.assertEqual(judge(SEVERAL), Said("unread", len(SEVERAL), notes="out of memory"))
 
     def test_memory_for_no_more_than_judging(self):

@@ -6,7 +6,7 @@ import resource
 import sqlite3
 from contextlib import closing
 
-import mvt
+import libmvt
 import pytest
 from common import EVIDENCE, at_places, audit, example_tiles, json, make_mbtiles, rows
 from mvt_tools import bounds
@@ -32,7 +32,7 @@ def standing_line(length):
 def of_names(letters, count=1):
     """A good and a refused tile with names of so many letters: a layer's, and those of so many keys."""
     keys = [(f"{at:03}" + "k" * letters) for at in range(count)]
-    good = mvt.write(mvt.Tile([mvt.Layer("n" * letters, 4096, [mvt.Feature(None, dict.fromkeys(keys, 1), "points", [(1, 1)])])]))
+    good = libmvt.write(libmvt.Tile([libmvt.Layer("n" * letters, 4096, [libmvt.Feature(None, dict.fromkeys(keys, 1), "points", [(1, 1)])])]))
     broken = field(3, field(15, 2) + field(1, b"n" * letters) + field(2, field(3, 2) + field(4, packed([9, 4, 4, 10, 0, 0]))))
     return good, broken
 
@@ -53,8 +53,8 @@ def test_a_long_broken_line_takes_less_than_300_MB_of_the_client(tmp_path, lengt
 
 def test_a_long_line_is_drawn_where_it_is_broken():
     tile = standing_line(900_000)
-    with pytest.raises(mvt.Refused) as refused:
-        mvt.judge(tile)
+    with pytest.raises(libmvt.Refused) as refused:
+        libmvt.judge(tile)
     [near] = [picture for picture in pictures.Album().of_fault(tile, refused.value) if picture.told.startswith("Round the place")]
     assert len(near.svg) < bounds.PICTURE
     assert near.svg.count(" ") > bounds.POINTS
@@ -62,8 +62,8 @@ def test_a_long_line_is_drawn_where_it_is_broken():
 
 def test_pictures_of_a_page_have_room_and_time_together(monkeypatch):
     tile = example_tiles()["20-ZeroSegment"]
-    with pytest.raises(mvt.Refused) as refused:
-        mvt.judge(tile)
+    with pytest.raises(libmvt.Refused) as refused:
+        libmvt.judge(tile)
     made = pictures.Album().of_fault(tile, refused.value)
     assert made
     monkeypatch.setattr(bounds, "PICTURES", 2 * bounds.PICTURE + 1)

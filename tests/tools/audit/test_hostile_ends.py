@@ -306,7 +306,7 @@ def test_the_current_folder_may_not_be_entered(store):
             os.setgid(65534)
             os.setuid(65534)
 
-        if subprocess.run([sys.executable, "-c", "import mvt"], preexec_fn=leave, capture_output=True).returncode:
+        if subprocess.run([sys.executable, "-c", "import libmvt"], preexec_fn=leave, capture_output=True).returncode:
             pytest.skip("the module is closed to others")
         env = {**os.environ, "TMPDIR": room}
         status, out, error = audit(f"{room}/store", "--into", f"{room}/audit", preexec_fn=leave, env=env)

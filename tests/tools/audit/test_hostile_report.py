@@ -4,7 +4,7 @@ import re
 
 import pytest
 from common import EVIDENCE, audit
-from mvt import Refused, judge
+from libmvt import Refused, judge
 from mvt_tools.audit.report import pictures
 from wire import field, packed, zigzag
 

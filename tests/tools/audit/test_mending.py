@@ -11,7 +11,7 @@ import zlib
 from contextlib import closing
 from pathlib import Path
 
-import mvt
+import libmvt
 from archives import archive
 from common import Case, at_places, audit, example_tiles, files, held, make_mbtiles, make_tree, packings, rows, start
 from mvt_tools.audit.parts import Part
@@ -20,7 +20,7 @@ EXAMPLES = example_tiles()
 # Two that are mended, one that isn't, a good one, and none at all.
 BROKEN = [EXAMPLES["20-ZeroSegment"], EXAMPLES["22-FirstRing"]]
 OTHERS = [EXAMPLES["10-NoName"], EXAMPLES["gdal"], b""]
-MENDED = [mvt.mend(tile).bytes for tile in BROKEN]
+MENDED = [libmvt.mend(tile).bytes for tile in BROKEN]
 
 
 class Mends(Case):

@@ -5,9 +5,9 @@ import resource
 import unittest
 from pathlib import Path
 
-import mvt
+import libmvt
 from common import TOP, example_tiles
-from mvt._mvt import cause_text
+from libmvt._mvt import cause_text
 from mvt_tools.audit.report import maps, pictures, sentences, shapes
 from wire import field, packed
 
@@ -40,13 +40,13 @@ class Words(unittest.TestCase):
         for tile in tiles:
             for cause in causes():
                 for layer, feature, at in [(None, None, 0), (0, None, 5), (0, 0, 3), (3, 900, 10**9), (0, 0, 2**63)]:
-                    pictures.close_up(tile, mvt.Refused(layer, feature, at, cause, "Name"))
+                    pictures.close_up(tile, libmvt.Refused(layer, feature, at, cause, "Name"))
 
 
 def paths(integers):
     """What the integers of a feature of a tile draw."""
     tile = field(3, field(2, field(4, packed(integers))))
-    return mvt.around(tile, mvt.Refused(0, 0, 0, 17, "Command")).paths()
+    return libmvt.around(tile, libmvt.Refused(0, 0, 0, 17, "Command")).paths()
 
 
 class Shapes(unittest.TestCase):
@@ -72,12 +72,12 @@ class Shapes(unittest.TestCase):
 
 class Pictures(unittest.TestCase):
     def test_a_text_of_many_features_makes_no_large_picture(self):
-        points = [mvt.Feature(None, {"a": "x" * 100_000}, "points", [(5, 5)])] * 3000
-        tile = mvt.write(mvt.Tile([mvt.Layer("a", 4096, points)]))
+        points = [libmvt.Feature(None, {"a": "x" * 100_000}, "points", [(5, 5)])] * 3000
+        tile = libmvt.write(libmvt.Tile([libmvt.Layer("a", 4096, points)]))
         # a layer "b" with a line that stands still
         broken = b"\x1a\x12\x78\x02\x0a\x01b\x12\x0b\x18\x02\x22\x07\x09\x04\x04\x0a\x00\x00\x00"
-        with self.assertRaises(mvt.Refused) as refused:
-            mvt.judge(tile + broken)
+        with self.assertRaises(libmvt.Refused) as refused:
+            libmvt.judge(tile + broken)
         before = resource.getrusage(resource.RUSAGE_SELF).ru_maxrss
         picture = pictures.of_tile(tile + broken, refused.exception)
         self.assertLess(resource.getrusage(resource.RUSAGE_SELF).ru_maxrss - before, 100_000)
@@ -87,8 +87,8 @@ class Pictures(unittest.TestCase):
     def test_a_picture_without_attributes_draws_the_same(self):
         for name, tile in example_tiles().items():
             try:
-                drawn = mvt.to_svg(tile)
-            except mvt.Refused:
+                drawn = libmvt.to_svg(tile)
+            except libmvt.Refused:
                 continue
             with self.subTest(name):
                 self.assertEqual(pictures._drawing(tile), re.sub("<title>[^<]*</title>\n?", "", drawn))

@@ -5,10 +5,10 @@ import sqlite3
 from contextlib import closing
 
 import archives
-import mvt
+import libmvt
 import pytest
 from common import EVIDENCE, audit, example_tiles, make_mbtiles, make_tree, rows
-from mvt._mvt import measured
+from libmvt._mvt import measured
 from mvt_tools import bounds
 from mvt_tools.audit import sizes
 from mvt_tools.stores import Address
@@ -18,22 +18,22 @@ POINT = bytes.fromhex("1a1b 7802 0a0161 1209 12020000 1801 2203093222 1a016b 220
 
 
 def tile_of(features, name="a"):
-    return mvt.write(mvt.Tile([mvt.Layer(name, 4096, features)]))
+    return libmvt.write(libmvt.Tile([libmvt.Layer(name, 4096, features)]))
 
 
 def line(length, **attributes):
     """A line of so many points, each a step of (1, 1) from the one before, which takes two bytes."""
-    return mvt.Feature(None, attributes, "lines", [[(at, at) for at in range(length)]])
+    return libmvt.Feature(None, attributes, "lines", [[(at, at) for at in range(length)]])
 
 
 def test_a_point_by_hand():
-    content = tile_of([mvt.Feature(None, {"k": "xyz"}, "points", [(25, 17)])])
+    content = tile_of([libmvt.Feature(None, {"k": "xyz"}, "points", [(25, 17)])])
     # The layer's field; its geometry's field 22 03 09 32 22; the tag's two numbers, the field of the key, and that of its value
     assert measured(content) == [("a", 1, len(content), 5, [("k", 2 + 3 + 7)])]
 
 
 def test_a_line_and_a_ring_by_hand():
-    ring = mvt.Feature(None, {}, "polygons", [[[(0, 0), (9, 0), (9, 9)]]])
+    ring = libmvt.Feature(None, {}, "polygons", [[[(0, 0), (9, 0), (9, 9)]]])
     # MoveTo, two numbers; LineTo, two numbers for each point more; ClosePath; and the field's tag and length
     assert [each[3] for each in measured(tile_of([line(3)]))] == [2 + 3 + 1 + 4]
     assert [each[3] for each in measured(tile_of([ring]))] == [2 + 3 + 1 + 4 + 1]
@@ -49,8 +49,8 @@ def test_layers_of_canonical_tiles_are_all_their_bytes():
     found = 0
     for name, content in {**example_tiles(), **EVIDENCE}.items():
         try:
-            canonical = mvt.rewrite(content)
-        except (mvt.Refused, mvt.TooLarge):
+            canonical = libmvt.rewrite(content)
+        except (libmvt.Refused, libmvt.TooLarge):
             continue
         layers = measured(canonical)
         assert sum(layer[2] for layer in layers) == len(canonical), name
@@ -119,11 +119,11 @@ def test_names_beyond_the_most_are_summed_up(monkeypatch):
 @pytest.fixture(scope="module")
 def made():
     """Tiles of two layers by place, of which one is large."""
-    roads = mvt.Layer("roads", 4096, [line(9, name="a"), line(9, name="b")])
-    water = mvt.Layer("water", 4096, [line(100, name="a", depth=2.5)] * 2)
-    large = mvt.Layer("water", 4096, [line(4000)] * 65)
-    tiles = {(3, at, at): mvt.write(mvt.Tile([roads, water])) for at in range(5)}
-    return {**tiles, (4, 0, 0): mvt.write(mvt.Tile([large])), (4, 1, 1): example_tiles()["20-ZeroSegment"]}
+    roads = libmvt.Layer("roads", 4096, [line(9, name="a"), line(9, name="b")])
+    water = libmvt.Layer("water", 4096, [line(100, name="a", depth=2.5)] * 2)
+    large = libmvt.Layer("water", 4096, [line(4000)] * 65)
+    tiles = {(3, at, at): libmvt.write(libmvt.Tile([roads, water])) for at in range(5)}
+    return {**tiles, (4, 0, 0): libmvt.write(libmvt.Tile([large])), (4, 1, 1): example_tiles()["20-ZeroSegment"]}
 
 
 def test_each_store_and_its_page(made, tmp_path):

@@ -13,7 +13,7 @@ import zlib
 from collections import Counter
 from contextlib import closing
 
-import mvt
+import libmvt
 from common import Case, at_places, example_tiles, make_mbtiles, make_tree, packings
 from mvt_tools import stores
 from mvt_tools.bounds import MEMBERS
@@ -258,7 +258,7 @@ class Unpacking(unittest.TestCase):
         self.assertLess(grown, 4 * LIMIT)
 
     def test_refused_survives_pickling(self):
-        fault = mvt.Refused(1, None, 17, 22, "FirstRing")
+        fault = libmvt.Refused(1, None, 17, 22, "FirstRing")
         again = pickle.loads(pickle.dumps(fault))
         self.assertEqual(vars(again), vars(fault))
         self.assertEqual(str(again), "layer 1 feature - at 17: 22 FirstRing")

@@ -3,7 +3,7 @@
 import re
 import unittest
 
-import mvt
+import libmvt
 from mvt_tools.page.differ import first_difference
 from serving import TILES
 from wire import field
@@ -53,7 +53,7 @@ class Differs(unittest.TestCase):
     def test_the_example_tiles(self):
         for file in sorted(TILES.glob("*.mvt")):
             tile = file.read_bytes()
-            found, made = first_difference(tile, mvt.rewrite(tile)), mvt.rewrite(tile)
+            found, made = first_difference(tile, libmvt.rewrite(tile)), libmvt.rewrite(tile)
             self.assertEqual(found is None, tile == made, file)
             if found is not None:
                 self.assertTrue(0 <= found["at"] < len(tile), file)

@@ -3,20 +3,20 @@
 import json
 import struct
 
-import mvt
+import libmvt
 import pytest
 from serving import frames, parts_of
 
-SIZES = [4 << 20, 32 << 20, mvt.LIMIT]
+SIZES = [4 << 20, 32 << 20, libmvt.LIMIT]
 OK, REFUSED = 0, 1
-[TOO_LARGE] = [number for number, name in mvt.CAUSES.items() if name == "TooLarge"]
+[TOO_LARGE] = [number for number, name in libmvt.CAUSES.items() if name == "TooLarge"]
 
 
 def tile_of(size):
     """A tile of so many canonical bytes, most of which are an attribute's."""
 
     def made(length):
-        return mvt.Builder().layer("a").feature("points").tag("k", "x" * length).point(1, 1).finish()
+        return libmvt.Builder().layer("a").feature("points").tag("k", "x" * length).point(1, 1).finish()
 
     return made(2 * (size - 100) - len(made(size - 100)) + 100)
 
@@ -36,7 +36,7 @@ def test_each_call_answers(size, serving):
     for place in (b"", b"3/1/2"):
         found, told = status(serving.call("geojson", frames(place, tile)))
         [feature] = json.loads(told)["features"]
-        assert (found, feature["properties"]) == (OK, mvt.read(tile)["a"].features[0].attributes)
+        assert (found, feature["properties"]) == (OK, libmvt.read(tile)["a"].features[0].attributes)
 
 
 def test_as_many_tiles_as_there_is_room_for(serving):
@@ -46,7 +46,7 @@ def test_as_many_tiles_as_there_is_room_for(serving):
 
 
 def test_a_tile_beyond_the_limit_is_too_large(serving):
-    tile = tile_of(mvt.LIMIT) + b"\0"
+    tile = tile_of(libmvt.LIMIT) + b"\0"
     answers = [serving.call("extract", frames(b"a", tile)), serving.call("geojson", frames(b"", tile)), *parts_of(serving.call("surveys", frames(tile)))]
     for answer in answers:
         found, told = status(answer)
@@ -55,7 +55,7 @@ def test_a_tile_beyond_the_limit_is_too_large(serving):
 
 def test_a_body_beyond_all_frames_is_refused(serving):
     # The head alone: the answer comes before a body that isn't wanted is sent whole, which may end the sending.
-    length = len(frames(b"a", b"")) + mvt.LIMIT + (5 << 20)
+    length = len(frames(b"a", b"")) + libmvt.LIMIT + (5 << 20)
     assert serving.ask("POST", "extract", headers={"Content-Length": str(length)})[0] == 413
     assert serving.call("judge", b"") == bytes(8)
 

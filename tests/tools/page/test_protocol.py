@@ -21,8 +21,8 @@ from contextlib import closing
 from pathlib import Path
 from xml.etree import ElementTree
 
-import mvt
-from mvt._mvt import measured
+import libmvt
+from libmvt._mvt import measured
 from mvt_tools.page.differ import first_difference
 from serving import COMMAND, TILES, Serving, frames, parts_of, until
 
@@ -60,10 +60,10 @@ class Served(unittest.TestCase):
 
 class Calls(Served):
     def test_texts_and_bytes(self):
-        told = mvt.survey(GDAL)
+        told = libmvt.survey(GDAL)
         counts = struct.pack("<3Q", told.layers, told.features, told.canonical)
-        for name, wanted in [("survey", counts), ("json", mvt.to_json(GDAL).encode()), ("svg", mvt.to_svg(GDAL).encode()),
-                             ("rewrite", mvt.rewrite(GDAL)), ("judge", b""), ("findings", b"")]:
+        for name, wanted in [("survey", counts), ("json", libmvt.to_json(GDAL).encode()), ("svg", libmvt.to_svg(GDAL).encode()),
+                             ("rewrite", libmvt.rewrite(GDAL)), ("judge", b""), ("findings", b"")]:
             self.assertEqual(self.serving.call(name, GDAL), struct.pack("<II", 0, 0) + wanted, name)
 
     def test_notes_and_findings(self):
@@ -75,7 +75,7 @@ class Calls(Served):
 
     def test_layers_that_are_named(self):
         call = lambda *names: self.serving.call("extract", frames(*names, GDAL))
-        self.assertEqual(call(b"water", b"roads"), struct.pack("<II", 0, 0) + mvt.extract(GDAL, ["water", "roads"]))
+        self.assertEqual(call(b"water", b"roads"), struct.pack("<II", 0, 0) + libmvt.extract(GDAL, ["water", "roads"]))
         self.assertEqual(call(), struct.pack("<II", 0, 0))
         self.assertEqual(call(b"rivers"), struct.pack("<II", 4, 0))
         self.assertEqual(call(b"\xff"), struct.pack("<II", 5, 0))
@@ -104,14 +104,14 @@ class Calls(Served):
         told = self.serving.call("mend", BROKEN)
         self.assertEqual(told[:8], struct.pack("<II", 0, 0))
         said, mended = parts_of(told[8:])
-        self.assertEqual(mended, mvt.mend(BROKEN).bytes)
+        self.assertEqual(mended, libmvt.mend(BROKEN).bytes)
         said = json.loads(said)
         self.assertEqual((said["kinds"], said["lines"]), ([{"kind": "TurnedRing", "count": 1}], ["layer 0 feature 0: TurnedRing 0"]))
         [feature] = said["features"]
         self.assertEqual(feature["before"]["parts"], [[[20, 34], [8, 12], [3, 6], [20, 34]]])
         self.assertEqual(feature["after"]["parts"], [[[20, 34], [3, 6], [8, 12], [20, 34]]])
         said, mended = parts_of(self.serving.call("mend", GDAL)[8:])
-        self.assertEqual((json.loads(said), mended), ({"kinds": [], "lines": [], "features": []}, mvt.rewrite(GDAL)))
+        self.assertEqual((json.loads(said), mended), ({"kinds": [], "lines": [], "features": []}, libmvt.rewrite(GDAL)))
         self.assertEqual(self.serving.call("mend", b"\0"), self.serving.call("judge", b"\0"))
 
     def test_features_that_are_left_out(self):
@@ -127,9 +127,9 @@ class Calls(Served):
 
     def test_what_differs_from_the_canonical_form(self):
         told = json.loads(self.serving.call("canonical", GDAL)[8:])
-        self.assertEqual((told["isSame"], told["length"]), (False, len(mvt.rewrite(GDAL))))
-        self.assertEqual(told["difference"], json.loads(json.dumps(first_difference(GDAL, mvt.rewrite(GDAL)))))
-        told = json.loads(self.serving.call("canonical", mvt.rewrite(GDAL))[8:])
+        self.assertEqual((told["isSame"], told["length"]), (False, len(libmvt.rewrite(GDAL))))
+        self.assertEqual(told["difference"], json.loads(json.dumps(first_difference(GDAL, libmvt.rewrite(GDAL)))))
+        told = json.loads(self.serving.call("canonical", libmvt.rewrite(GDAL))[8:])
         self.assertEqual((told["isSame"], told["difference"]), (True, None))
         self.assertEqual(self.serving.call("canonical", BROKEN), self.serving.call("judge", BROKEN))
         # Behind a field 100 of 8 MiB, which the canonical form doesn't have: of so large a tile no difference is told.
@@ -157,7 +157,7 @@ class Calls(Served):
             self.assertEqual(self.serving.call("explain", tile), struct.pack("<II", 0, 0))
 
     def test_rows(self):
-        rows, told = mvt.rows(GDAL), self.serving.call("read", GDAL)
+        rows, told = libmvt.rows(GDAL), self.serving.call("read", GDAL)
         names = ("layers", "features", "keys", "values", "tags", "parts", "points", "integers", "texts")
         self.assertEqual(struct.unpack_from("<II9Q", told), (0, 0, *(len(getattr(rows, name)) for name in names)))
         at = 80
@@ -176,9 +176,9 @@ class Calls(Served):
     def test_geojson(self):
         degrees = self.serving.call("geojson", frames(b"14/8192/8191", GDAL))
         self.assertEqual(degrees[:8], struct.pack("<II", 0, 0))
-        self.assertEqual(json.loads(degrees[8:]), mvt.to_geojson(GDAL, 14, 8192, 8191))
+        self.assertEqual(json.loads(degrees[8:]), libmvt.to_geojson(GDAL, 14, 8192, 8191))
         units = json.loads(self.serving.call("geojson", frames(b"", GDAL))[8:])
-        wanted = [{**each, "layer": layer.name} for layer in mvt.read(GDAL) for each in layer.__geo_interface__["features"]]
+        wanted = [{**each, "layer": layer.name} for layer in libmvt.read(GDAL) for each in layer.__geo_interface__["features"]]
         self.assertEqual(units, json.loads(json.dumps({"type": "FeatureCollection", "features": wanted})))
         self.assertEqual(json.loads(self.serving.call("geojson", frames(b"", b""))[8:])["features"], [])
         self.assertEqual(self.serving.call("geojson", frames(b"", BROKEN)), self.serving.call("judge", BROKEN))

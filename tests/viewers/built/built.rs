@@ -1,6 +1,6 @@
 //! The tile of tests/viewers/built, by the builder of Rust.
 
-use mvt::{Builder, Kind, Point, Value};
+use libmvt::{Builder, Kind, Point, Value};
 use std::io::Write;
 
 /// A square of a ring of four points.

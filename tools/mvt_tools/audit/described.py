@@ -3,7 +3,7 @@
 import math
 from typing import Any, Dict, Iterator, List, NamedTuple, Optional, Set, Tuple
 
-from mvt.mercator import EDGE, column_of, row_of
+from libmvt.mercator import EDGE, column_of, row_of
 
 from .. import bounds, foreign
 from .._shown import shown

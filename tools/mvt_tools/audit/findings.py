@@ -4,7 +4,7 @@ import sqlite3
 from collections import Counter
 from typing import Any, Dict, List, NamedTuple, Optional, Sequence, Tuple
 
-from mvt import Finding
+from libmvt import Finding
 
 from ..stores import Address
 

@@ -10,11 +10,11 @@ from operator import itemgetter
 from pathlib import Path
 from typing import Any, Dict, Iterable, List, NamedTuple, Optional, Sequence, Tuple
 
-import mvt
-from mvt import CAUSES, Finding
-from mvt._mvt import looked_at
-from mvt._numbers import NOTES
-from mvt._remarks import finding_of, note_of
+import libmvt
+from libmvt import CAUSES, Finding
+from libmvt._mvt import looked_at
+from libmvt._numbers import NOTES
+from libmvt._remarks import finding_of, note_of
 
 from .. import bounds
 from ..stores import MOST_ZOOM, Address, Content, Store
@@ -153,7 +153,7 @@ class Judge:
     def _of_tile(self, tile: bytes, is_packed: bool) -> Said:
         try:
             told = self._look(tile)
-        except mvt.Refused as fault:
+        except libmvt.Refused as fault:
             return _refused(tile, fault, is_packed)
         except MemoryError:
             return self._only_judged(tile, is_packed)
@@ -176,8 +176,8 @@ class Judge:
     def _only_judged(self, tile: bytes, is_packed: bool) -> Said:
         """What is said of a tile where there is memory to judge it, and no more."""
         try:
-            mvt.judge(tile)
-        except mvt.Refused as fault:
+            libmvt.judge(tile)
+        except libmvt.Refused as fault:
             return _refused(tile, fault, is_packed)
         self.measured = []
         return Said(ACCEPTED, len(tile), notes="what else is to be said of it takes too much memory")
@@ -187,7 +187,7 @@ def _nothing(tile: bytes) -> sizes.Measured:
     return []
 
 
-def _refused(tile: bytes, fault: mvt.Refused, is_packed: bool) -> Said:
+def _refused(tile: bytes, fault: libmvt.Refused, is_packed: bool) -> Said:
     return Said(REFUSED, len(tile), *_columns(tile, fault, is_packed))
 
 
@@ -335,7 +335,7 @@ def _notes(rows: Sequence[Sequence[int]], count: int) -> str:
     return "; ".join(notes)
 
 
-def _columns(tile: bytes, fault: mvt.Refused, is_packed: bool) -> Tuple[Any, ...]:
+def _columns(tile: bytes, fault: libmvt.Refused, is_packed: bool) -> Tuple[Any, ...]:
     """The layer, its name, the feature, its id, the place, the cause and its name. What unpacks beyond the limit is too
     large, whatever its front breaks."""
     if is_packed and len(tile) > LIMIT and fault.cause != TOO_LARGE:

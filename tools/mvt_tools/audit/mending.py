@@ -7,11 +7,11 @@ from collections import Counter
 from contextlib import AbstractContextManager, ExitStack, closing
 from typing import Any, Callable, Dict, Iterable, Iterator, List, Optional, Tuple, Union
 
-import mvt
-from mvt import CAUSES
-from mvt._mending import ROW
-from mvt._mvt import mend_rows
-from mvt._numbers import CHANGES
+import libmvt
+from libmvt import CAUSES
+from libmvt._mending import ROW
+from libmvt._mvt import mend_rows
+from libmvt._numbers import CHANGES
 
 from ..stores import Address, State, Store, StoreError
 from ..stores.pmtiles import PMTiles
@@ -37,7 +37,7 @@ def mended(content: bytes) -> Optional[Mended]:
     try:
         tile = tile_in(content)
         made, rows = mend_rows(tile)
-    except (NotUnpacked, mvt.Refused, mvt.TooLarge, MemoryError):
+    except (NotUnpacked, libmvt.Refused, libmvt.TooLarge, MemoryError):
         return None
     if not rows:
         return None

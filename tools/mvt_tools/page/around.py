@@ -2,8 +2,8 @@
 
 from typing import Any, Dict, List, Optional, Sequence, Tuple
 
-import mvt
-from mvt._around import Around, Integer, Role, Step
+import libmvt
+from libmvt._around import Around, Integer, Role, Step
 
 from ..bounds import POINTS
 
@@ -13,19 +13,19 @@ _AROUND = 4
 _LOOKED = 8
 _EXTENT = 4096
 # A cause of a feature's tags, round whose place stands the feature.
-_OF_FEATURE = next(number for number, name in mvt.CAUSES.items() if name == "OddTags")
+_OF_FEATURE = next(number for number, name in libmvt.CAUSES.items() if name == "OddTags")
 _X = (Role.MOVE_X, Role.LINE_X)
 
 
-def told(tile: bytes, fault: mvt.Refused) -> Dict[str, Any]:
+def told(tile: bytes, fault: libmvt.Refused) -> Dict[str, Any]:
     """The integers round the fault of a tile, and the shape, each of them None where there is none."""
-    around = mvt.around(tile, fault)
+    around = libmvt.around(tile, fault)
     return {"integers": _integers(tile, fault.at, around), "shape": _shape(fault.at, around)}
 
 
 def whole_shape(tile: bytes, layer: int, feature: int) -> Optional[Dict[str, Any]]:
     """The shape of a feature of any tile, as far as it can be read."""
-    return _shape(0, mvt.around(tile, mvt.Refused(layer, feature, 0, _OF_FEATURE, mvt.CAUSES[_OF_FEATURE])))
+    return _shape(0, libmvt.around(tile, libmvt.Refused(layer, feature, 0, _OF_FEATURE, libmvt.CAUSES[_OF_FEATURE])))
 
 
 def _integers(tile: bytes, at: int, around: Around) -> Optional[Dict[str, Any]]:

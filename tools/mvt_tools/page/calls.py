@@ -17,9 +17,9 @@ from contextlib import suppress
 from functools import partial
 from typing import Any, Callable, Dict, List, Optional, Sequence
 
-import mvt
-from mvt._mvt import json_lent, lint_rows, lookalike, measured, survey_rows, svg_lent
-from mvt.geojson.making import Place, objects_of, parts_of
+import libmvt
+from libmvt._mvt import json_lent, lint_rows, lookalike, measured, survey_rows, svg_lent
+from libmvt.geojson.making import Place, objects_of, parts_of
 
 from .. import bounds
 from ..stores import place_of
@@ -33,33 +33,33 @@ OK, REFUSED, NO_MEMORY, TOO_LARGE, NO_LAYER, BAD_NAME = range(6)
 Answer = List[Part]
 
 
-def _answered(call: Callable[..., Sequence[Part]], tile: mvt.Buffer, *words: Any) -> Answer:
+def _answered(call: Callable[..., Sequence[Part]], tile: libmvt.Buffer, *words: Any) -> Answer:
     """What a call hands out of a tile, or what it raises."""
     try:
         return [_head(OK), *call(tile, *words)]
-    except mvt.Refused as fault:
+    except libmvt.Refused as fault:
         return [_refused(fault, tile)]
-    except mvt.NoLayer:
+    except libmvt.NoLayer:
         return [_head(NO_LAYER)]
-    except mvt.TooLarge:
+    except libmvt.TooLarge:
         return [_head(TOO_LARGE)]
     except MemoryError:
         return [_head(NO_MEMORY)]
 
 
-def _judged(tile: mvt.Buffer) -> Answer:
-    mvt.judge(tile)
+def _judged(tile: libmvt.Buffer) -> Answer:
+    libmvt.judge(tile)
     return []
 
 
-def _surveyed(tile: mvt.Buffer) -> Answer:
+def _surveyed(tile: libmvt.Buffer) -> Answer:
     layers, features, is_canonical, notes = survey_rows(tile)
     return [struct.pack("<3Q", layers, features, is_canonical), notes]
 
 
-def _read(tile: mvt.Buffer) -> Answer:
+def _read(tile: libmvt.Buffer) -> Answer:
     """The counts of rows, and the bytes of each list."""
-    rows = mvt.rows(tile, bounds.ROWS_OF_PAGE)
+    rows = libmvt.rows(tile, bounds.ROWS_OF_PAGE)
     pieces: Answer = [struct.pack("<9Q", *(len(getattr(rows, name)) for name in _LISTS))]
     for content in map(memoryview, rows._lent()):
         pieces += [content, bytes(-len(content) % 8)]
@@ -72,9 +72,9 @@ _LISTS = ("layers", "features", "keys", "values", "tags", "parts", "points", "in
 def _explain(tile: bytearray) -> Answer:
     """Where and why a tile is refused; of an accepted one only that."""
     try:
-        mvt.judge(tile)
+        libmvt.judge(tile)
         return [_head(OK)]
-    except mvt.Refused as fault:
+    except libmvt.Refused as fault:
         return [_refused(fault, tile), _explained(fault)]
     except MemoryError:
         return [_head(NO_MEMORY)]
@@ -85,8 +85,8 @@ def _around(tile: bytes) -> Answer:
     where the tile is large."""
     told = {"integers": None, "shape": None}
     try:
-        mvt.judge(tile)
-    except mvt.Refused as fault:
+        libmvt.judge(tile)
+    except libmvt.Refused as fault:
         if len(tile) <= bounds.AROUND:
             with suppress(MemoryError):
                 told = around_told(tile, fault)
@@ -96,7 +96,7 @@ def _around(tile: bytes) -> Answer:
 def _canonical(tile: bytes) -> Answer:
     """How many bytes the canonical form has, and where the tile first differs from it, as JSON; that isn't told where there is
     no memory for it, or where the tile is large."""
-    made = mvt.rewrite(tile)
+    made = libmvt.rewrite(tile)
     found = None
     if max(len(tile), len(made)) <= bounds.AROUND:
         with suppress(MemoryError):
@@ -117,7 +117,7 @@ def _extract(body: bytearray) -> Answer:
         wanted = [bytes(body[name]).decode() for name in names]
     except UnicodeDecodeError:
         return [_head(BAD_NAME)]
-    return _answered(lambda tile: [mvt.extract(tile, wanted)], memoryview(body)[place])
+    return _answered(lambda tile: [libmvt.extract(tile, wanted)], memoryview(body)[place])
 
 
 def _surveys(body: bytearray) -> Answer:
@@ -126,7 +126,7 @@ def _surveys(body: bytearray) -> Answer:
     return frames.spelled([_answered(_surveyed, view[place]) for place in frames.places(body)])
 
 
-def _sizes(tile: mvt.Buffer) -> Answer:
+def _sizes(tile: libmvt.Buffer) -> Answer:
     """Of each layer the bytes, and those of its geometries, as JSON."""
     layers = measured(tile, bounds.ROWS_OF_PAGE)
     if layers is None:
@@ -147,7 +147,7 @@ def _geojson(body: bytearray) -> Answer:
 
 def _collection(tile: memoryview, place: Optional[Place]) -> Answer:
     made = bytearray(b'{"type":"FeatureCollection","features":[')
-    for part in parts_of(mvt.rows(tile, bounds.ROWS_OF_PAGE)):
+    for part in parts_of(libmvt.rows(tile, bounds.ROWS_OF_PAGE)):
         for each in objects_of(part, place):
             end = b",\n" if made[-1:] == b"}" else b"\n"
             made += end + json.dumps(each, ensure_ascii=False, separators=(",", ":"), allow_nan=False).encode()
@@ -164,7 +164,7 @@ CALLS: Dict[str, Callable[[bytearray], Answer]] = {
     "read": partial(_answered, _read),
     "survey": partial(_answered, _surveyed),
     "findings": partial(_answered, lambda tile: [lint_rows(tile)]),
-    "rewrite": partial(_answered, lambda tile: [mvt.rewrite(tile)]),
+    "rewrite": partial(_answered, lambda tile: [libmvt.rewrite(tile)]),
     "canonical": lambda body: _answered(_canonical, bytes(body)),
     "mend": lambda body: _answered(_mend, bytes(body)),
     "json": partial(_answered, lambda tile: [memoryview(json_lent(tile))]),
@@ -185,14 +185,14 @@ def _spelled(told: Any) -> bytes:
     return json.dumps(told, separators=(",", ":")).encode()
 
 
-def _refused(fault: mvt.Refused, tile: mvt.Buffer) -> bytes:
+def _refused(fault: libmvt.Refused, tile: libmvt.Buffer) -> bytes:
     layer, feature = (-1 if index is None else index for index in (fault.layer, fault.feature))
     kind, name, sentence = lookalike(tile), fault.name.encode(), fault.sentence.encode()
     told = struct.pack("<IIqqQII", REFUSED, kind, layer, feature, fault.at, fault.cause, len(name)) + name
     return told if kind == 0 else told + struct.pack("<I", len(sentence)) + sentence
 
 
-def _explained(fault: mvt.Refused) -> bytes:
+def _explained(fault: libmvt.Refused) -> bytes:
     name, sentence = (fault.layer_name or "").encode(), fault.sentence.encode()
     is_there = fault.layer_name is not None, fault.feature_id is not None
     place = fault.feature_id or 0, fault.start or 0, fault.end or 0

@@ -3,13 +3,13 @@ Which fields and integers there are the library says, as round a fault."""
 
 from typing import Any, Callable, Dict, List, Optional, Sequence, TypeVar
 
-import mvt
-from mvt._around import Bounds, Field, Integer
+import libmvt
+from libmvt._around import Bounds, Field, Integer
 
 _Row = TypeVar("_Row")
 
 # Causes whose place is an offset, and so leads to the message that has it, and an index, and so leads to the feature.
-_OFFSET, _INDEX = (next(number for number, each in mvt.CAUSES.items() if each == name) for name in ("Truncated", "KeyIndex"))
+_OFFSET, _INDEX = (next(number for number, each in libmvt.CAUSES.items() if each == name) for name in ("Truncated", "KeyIndex"))
 
 # The names of the fields that tiles know, by the message that has them.
 _NAMES: Dict[str, Dict[int, str]] = {
@@ -29,7 +29,7 @@ class _Message:
     ) -> None:
         self.tile, self.bounds, self.kind, self.layer = tile, bounds, kind, layer
         cause = _INDEX if kind == "feature" else _OFFSET
-        self.around = mvt.around(tile, mvt.Refused(layer, feature, bounds.body, cause, mvt.CAUSES[cause]))
+        self.around = libmvt.around(tile, libmvt.Refused(layer, feature, bounds.body, cause, libmvt.CAUSES[cause]))
         self.count = len(self.around.fields) if bounds.body < bounds.end else 0
 
     def content(self, bounds: Bounds) -> bytes:

@@ -5,7 +5,7 @@ import time
 from contextlib import closing
 from typing import Any, Dict, List, NamedTuple, Optional, Tuple
 
-import mvt
+import libmvt
 
 from .. import foreign
 from ..audit.judging import ACCEPTED, BROKEN_VERDICTS, EMPTY, Judge, Said
@@ -123,8 +123,8 @@ class _Looker:
         if not self._wish.only_broken or not isinstance(content, bytes):
             return False
         try:
-            mvt.judge(unpacked(content))
-        except mvt.Refused as fault:
+            libmvt.judge(unpacked(content))
+        except libmvt.Refused as fault:
             return self._wish.cause not in (None, fault.cause)
         except (NotUnpacked, MemoryError):
             return False  # which the row tells

@@ -4,10 +4,10 @@ from collections import Counter
 from contextlib import suppress
 from typing import Any, Dict, Iterator, List, Sequence, Tuple
 
-import mvt
-from mvt._mending import ROW, change_of
-from mvt._mvt import mend_rows
-from mvt._numbers import CHANGES
+import libmvt
+from libmvt._mending import ROW, change_of
+from libmvt._mvt import mend_rows
+from libmvt._numbers import CHANGES
 
 from .. import bounds
 from .around import whole_shape
@@ -32,7 +32,7 @@ def told(tile: bytes) -> Tuple[bytes, Dict[str, Any]]:
     }
 
 
-def _features(tile: bytes, made: bytes, changes: Sequence[mvt.Change]) -> Iterator[Dict[str, Any]]:
+def _features(tile: bytes, made: bytes, changes: Sequence[libmvt.Change]) -> Iterator[Dict[str, Any]]:
     """The shapes of the first features that were changed, before and after; None for one that isn't drawn."""
     layer, left_out = -1, 0  # how many features of the layer are left out so far
     changed = {(each.layer, each.feature): each.kind for each in changes}

@@ -19,8 +19,8 @@ from queue import SimpleQueue
 from typing import Any, Deque, Dict, Iterator, List, NamedTuple, Optional, Tuple
 from urllib.parse import urljoin, urlsplit
 
-import mvt
-from mvt.mercator import EDGE, column_of, row_of
+import libmvt
+from libmvt.mercator import EDGE, column_of, row_of
 
 from .. import foreign
 from .._shown import shown
@@ -38,7 +38,7 @@ _NOTHING_THERE = (204, 404)
 _TOLD = 0.2
 # A server that sends head and body apart may wait until the head is acknowledged, which else takes 40 ms.
 _AT_ONCE = getattr(socket, "TCP_QUICKACK", None)
-_HEADERS = {"User-Agent": f"mvt-audit/{mvt.__version__}", "Accept-Encoding": "gzip", "Accept": "*/*"}
+_HEADERS = {"User-Agent": f"mvt-audit/{libmvt.__version__}", "Accept-Encoding": "gzip", "Accept": "*/*"}
 
 
 class ServerError(Exception):

@@ -4,8 +4,8 @@ import re
 import zlib
 from typing import List, Tuple
 
-from mvt import LIMIT as LIMIT
-from mvt import Refused, judge
+from libmvt import LIMIT as LIMIT
+from libmvt import Refused, judge
 
 from ..bounds import MEMBERS
 

@@ -2,7 +2,7 @@
 
 from typing import Any, Dict, Iterator, List, NamedTuple, Optional
 
-import mvt
+import libmvt
 
 from ...stores import Address, Store
 from ...stores.unpacking import LIMIT, NotUnpacked, unpacked
@@ -23,13 +23,13 @@ class Example(NamedTuple):
     why: str = ""
     link: Optional[str] = None
 
-    def fault(self) -> Optional[mvt.Refused]:
+    def fault(self) -> Optional[libmvt.Refused]:
         """The fault of a refused tile; None where its bytes are gone, or were mended since."""
         if self.row.verdict != REFUSED or self.content is None:
             return None
         try:
-            mvt.judge(self.content)
-        except mvt.Refused as fault:
+            libmvt.judge(self.content)
+        except libmvt.Refused as fault:
             return fault
         return None
 

@@ -4,7 +4,7 @@ import math
 from collections import defaultdict
 from typing import Dict, List, NamedTuple, Tuple
 
-from mvt.mercator import latitude_of, longitude_of
+from libmvt.mercator import latitude_of, longitude_of
 
 from ..judging import BROKEN, SQUARES
 from ..results import Results

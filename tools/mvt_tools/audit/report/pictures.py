@@ -4,9 +4,9 @@ import re
 import time
 from typing import List, NamedTuple, Optional, Tuple
 
-import mvt
+import libmvt
 
-from mvt._around import Around, Path
+from libmvt._around import Around, Path
 
 from ... import bounds
 from .shapes import Point, position
@@ -26,9 +26,9 @@ class Picture(NamedTuple):
     told: str
 
 
-def _without(tile: bytes, fault: mvt.Refused) -> bytes:
+def _without(tile: bytes, fault: libmvt.Refused) -> bytes:
     """The tile without the feature, the layer or the end that a fault names."""
-    around = mvt.around(tile, fault)
+    around = libmvt.around(tile, fault)
     layer, feature = around.layer, around.feature
     if layer is None:
         return tile[: fault.at]
@@ -52,9 +52,9 @@ def good_part(tile: bytes) -> Tuple[Optional[bytes], int]:
     begun, dropped = time.monotonic(), 0
     while time.monotonic() - begun < bounds.PICTURE_SECONDS:
         try:
-            mvt.judge(tile)
+            libmvt.judge(tile)
             return tile, dropped
-        except mvt.Refused as fault:
+        except libmvt.Refused as fault:
             less, dropped = _without(tile, fault), dropped + 1
             if len(less) >= len(tile):
                 break
@@ -65,11 +65,11 @@ def good_part(tile: bytes) -> Tuple[Optional[bytes], int]:
 def _drawing(tile: bytes) -> str:
     """The picture of a tile without attributes, since a text that many features have would stand in it for each. Raises
     MemoryError where it has too many rows."""
-    drawn = mvt.read(tile, bounds.PICTURE_ROWS)
+    drawn = libmvt.read(tile, bounds.PICTURE_ROWS)
     for layer in drawn.layers:
-        if isinstance(layer, mvt.Layer):
-            layer.features = [mvt.Feature(each.id, {}, each.kind, each.geometry) for each in layer.features]
-    return _TITLE.sub("", mvt.to_svg(mvt.write(drawn)))
+        if isinstance(layer, libmvt.Layer):
+            layer.features = [libmvt.Feature(each.id, {}, each.kind, each.geometry) for each in layer.features]
+    return _TITLE.sub("", libmvt.to_svg(libmvt.write(drawn)))
 
 
 def _document(content: str, box: str = "0 0 1 1") -> str:
@@ -104,8 +104,8 @@ class _Drawn(NamedTuple):
     place: Optional[Tuple[Path, int]]
 
 
-def _drawn(tile: bytes, fault: mvt.Refused) -> _Drawn:
-    around = mvt.around(tile, fault)
+def _drawn(tile: bytes, fault: libmvt.Refused) -> _Drawn:
+    around = libmvt.around(tile, fault)
     if around.feature is None:
         return _Drawn([], 0, False, None)
     at = fault.at if around.list == "geometry" else 0
@@ -167,7 +167,7 @@ class Album:
     def __init__(self) -> None:
         self._room, self._ends = bounds.PICTURES, time.monotonic() + bounds.PICTURES_SECONDS
 
-    def of_fault(self, tile: bytes, fault: mvt.Refused) -> List[Picture]:
+    def of_fault(self, tile: bytes, fault: libmvt.Refused) -> List[Picture]:
         """The pictures of a broken tile: the whole, and round the place; none where they would be too much."""
         if len(tile) > bounds.TILE_OF_PICTURE or self._room < 2 * bounds.PICTURE or time.monotonic() > self._ends:
             return []
@@ -179,7 +179,7 @@ class Album:
         return found
 
 
-def of_tile(tile: bytes, fault: mvt.Refused) -> Optional[Picture]:
+def of_tile(tile: bytes, fault: libmvt.Refused) -> Optional[Picture]:
     """The whole tile: what is good of it, and the broken feature in red, with a circle round the place; with the tile's
     edge where the feature goes beyond it."""
     good, dropped = _good(tile)
@@ -212,7 +212,7 @@ def _said(is_alone: bool, dropped: int, is_drawn: bool, is_beyond: bool) -> str:
     return f"The tile, {red}."
 
 
-def close_up(tile: bytes, fault: mvt.Refused) -> Optional[Picture]:
+def close_up(tile: bytes, fault: libmvt.Refused) -> Optional[Picture]:
     """The points round the place of a fault of the geometry."""
     drawn, _, are_points, found = _drawn(tile, fault)
     if found is None or are_points:

@@ -2,7 +2,7 @@
 
 from typing import List, Optional, Tuple
 
-from mvt._around import Path
+from libmvt._around import Path
 
 Point = Tuple[int, int]
 

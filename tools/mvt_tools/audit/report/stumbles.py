@@ -3,7 +3,7 @@
 from html import escape
 from typing import Dict, List
 
-import mvt
+import libmvt
 
 from ... import bounds
 from ...stores import Store
@@ -26,7 +26,7 @@ def stumbles(results: Results, stores: Dict[str, Store]) -> List[str]:
     parts = ['<h2 id="findings">What viewers stumble over</h2>', f'<p class="quiet">{_SAID}</p>']
     for kind in found:
         parts.append(f'<h3 id="finding-{escape(kind.name)}">{escape(kind.name)}: {counted(kind.tiles, "tile")}</h3>')
-        parts.append(f"<p>{escape(mvt.Finding(kind.name, kind.layer).explanation)}</p>")
+        parts.append(f"<p>{escape(libmvt.Finding(kind.name, kind.layer).explanation)}</p>")
         parts.append(f'<p class="quiet">{_zooms(dict(kind.zooms))}.</p>')
         parts.append(_example(kind, stores))
     return parts
@@ -50,7 +50,7 @@ def _within(kind: Kind, store: Store) -> str:
     try:
         if leads_out(store, kind.address):
             return ""
-        rows = mvt.rows(unpacked(store.tile(kind.address)), bounds.PICTURE_ROWS)
+        rows = libmvt.rows(unpacked(store.tile(kind.address)), bounds.PICTURE_ROWS)
         layer = rows.layers[index]
         feature = None if within is None else rows.features[layer.features.start + within]
         name = rows.text(layer.name)

@@ -59,11 +59,11 @@ pub enum Change {
 /// ```
 /// // The layer "a" with a line from (2, 3) to (2, 3) and to (2, 7).
 /// let tile = b"\x1a\x13\x78\x02\x0a\x01a\x12\x0c\x18\x02\x22\x08\x09\x04\x06\x12\0\0\0\x08";
-/// let mended = mvt::mend(tile)?;
+/// let mended = libmvt::mend(tile)?;
 /// assert_eq!(mended.changes.len(), 1);
 /// assert_eq!(mended.changes[0].to_string(), "layer 0 feature 0: RepeatedPoint 0 count 1");
-/// assert_eq!(mvt::judge(&mended.bytes), Ok(()));
-/// # Ok::<(), mvt::Error>(())
+/// assert_eq!(libmvt::judge(&mended.bytes), Ok(()));
+/// # Ok::<(), libmvt::Error>(())
 /// ```
 ///
 /// # Errors

@@ -17,7 +17,7 @@ _POINTS, _LINES, _POLYGONS = 1, 2, 3
 
 
 def to_geopandas(layer: Union[Layer, Frame], z: int, x: int, y: int, decimals: int) -> Any:
-    """`mvt.to_geopandas`, which says what it does."""
+    """`libmvt.to_geopandas`, which says what it does."""
     if not (0 <= z <= 30 and isinstance(x, int) and isinstance(y, int)):
         raise ValueError("a tile's place is a zoom up to 30, a column and a row")
     frame = layer if isinstance(layer, Frame) else frame_of_layer(layer)

@@ -3,12 +3,12 @@
 mod cases;
 
 use cases::told::cases;
-use mvt::{Builder, Change, Error, Finding, Kind, Note, Point, Value};
+use libmvt::{Builder, Change, Error, Finding, Kind, Note, Point, Value};
 use std::collections::HashSet;
 use std::thread;
 
 /// A tile of three layers: a feature with each kind of value, a ring and integers, and bytes of version 1.
-fn made() -> mvt::Bytes {
+fn made() -> libmvt::Bytes {
     let mut builder = Builder::new();
     builder.layer("places", 512).feature(Kind::Points).id(7);
     builder.tag("name", "Mill Pond").tag("depth", 3.5);
@@ -29,7 +29,7 @@ fn made() -> mvt::Bytes {
 #[test]
 fn layers_and_attributes() {
     let bytes = made();
-    let tile = mvt::read(&bytes).unwrap();
+    let tile = libmvt::read(&bytes).unwrap();
     let told = tile.layers();
     let names: Vec<_> = told
         .map(|layer| (layer.version(), layer.name(), layer.extent()))
@@ -50,12 +50,12 @@ fn layers_and_attributes() {
     assert_eq!(place.attributes().collect::<Vec<_>>(), wanted);
     assert_eq!(place.attribute("n"), Some(Value::Uint(5)));
     assert_eq!(place.attribute("none"), None);
-    assert_eq!(mvt::write(&tile).unwrap(), bytes);
+    assert_eq!(libmvt::write(&tile).unwrap(), bytes);
 }
 
 #[test]
 fn geometries() {
-    let tile = mvt::read(&made()).unwrap();
+    let tile = libmvt::read(&made()).unwrap();
     let place = tile.layer("places").unwrap().features().next().unwrap();
     let points = place.parts().next().unwrap().points;
     assert_eq!(points, [Point::new(25, 17), Point::new(-1, 2)]);
@@ -77,7 +77,7 @@ fn each_kind_of_value() {
     builder.tag("u", 5).tag("n", -5);
     builder.tag("z", Value::Sint(5)).tag("b", true);
     assert_eq!(*builder.finish().unwrap(), wanted);
-    let tile = mvt::read(&wanted).unwrap();
+    let tile = libmvt::read(&wanted).unwrap();
     builder.layer("a", 4096).feature(Kind::Points).point(25, 17);
     let feature = tile.layer("a").unwrap().features().next().unwrap();
     for (key, value) in feature.attributes() {
@@ -109,7 +109,7 @@ fn texts_that_are_lent_or_owned() {
     builder
         .tag("value", Value::from(&owned))
         .tag("owned", owned);
-    let tile = mvt::read(&builder.finish().unwrap()).unwrap();
+    let tile = libmvt::read(&builder.finish().unwrap()).unwrap();
     let layer = tile.layer("a").unwrap();
     assert_eq!(layer.values().collect::<Vec<_>>(), [Value::Text("x")]);
     assert_eq!(layer.keys().len(), 6);
@@ -117,7 +117,7 @@ fn texts_that_are_lent_or_owned() {
 
 #[test]
 fn lists_from_both_ends() {
-    let tile = mvt::read(&made()).unwrap();
+    let tile = libmvt::read(&made()).unwrap();
     let mut versions: Vec<_> = tile.layers().rev().map(|layer| layer.version()).collect();
     assert_eq!(versions, [1, 2, 2]);
     versions.clear();
@@ -139,39 +139,39 @@ fn lists_from_both_ends() {
 }
 
 /// A tile of a feature with a number, and the keys and values that no feature uses.
-fn numbered(number: f64, unused: &str) -> mvt::Tile {
+fn numbered(number: f64, unused: &str) -> libmvt::Tile {
     let mut builder = Builder::new();
     builder.layer("a", 4096);
     let (key, value) = (builder.key("k").unwrap(), builder.value(number).unwrap());
     builder.key(unused).unwrap();
     builder.feature(Kind::Points).tag_at(key, value);
     builder.points(&[(25, 17).into()]);
-    mvt::read(&builder.finish().unwrap()).unwrap()
+    libmvt::read(&builder.finish().unwrap()).unwrap()
 }
 
 #[test]
 fn tiles_that_are_equal() {
     assert_eq!(numbered(f64::NAN, "x"), numbered(f64::NAN, "y"));
     assert_ne!(numbered(0.0, "x"), numbered(-0.0, "x"));
-    assert_ne!(numbered(1.0, "x"), mvt::read(&made()).unwrap());
-    let tile = mvt::read(&made()).unwrap();
+    assert_ne!(numbered(1.0, "x"), libmvt::read(&made()).unwrap());
+    let tile = libmvt::read(&made()).unwrap();
     let twin = tile.clone();
     assert_eq!(tile.layer("places"), twin.layer("places"));
     assert_ne!(tile.layer("places"), twin.layer("water"));
     drop(tile);
-    assert_eq!(mvt::write(&twin).unwrap(), made());
+    assert_eq!(libmvt::write(&twin).unwrap(), made());
     // The layer `a` with the point (25, 17), and the same with a key that no feature uses.
     let bare = b"\x1a\x11\x78\x02\x0a\x01a\x12\x07\x18\x01\x22\x03\x09\x32\x22\x28\x80\x20";
     let keyed =
         b"\x1a\x14\x78\x02\x0a\x01a\x12\x07\x18\x01\x22\x03\x09\x32\x22\x1a\x01k\x28\x80\x20";
-    assert_eq!(mvt::read(bare).unwrap(), mvt::read(keyed).unwrap());
+    assert_eq!(libmvt::read(bare).unwrap(), libmvt::read(keyed).unwrap());
 }
 
 #[test]
 fn rows_made_elsewhere() {
-    let text = |start, len| mvt::Span { start, len };
-    let rows = mvt::Rows {
-        layers: &[mvt::LayerRow {
+    let text = |start, len| libmvt::Span { start, len };
+    let rows = libmvt::Rows {
+        layers: &[libmvt::LayerRow {
             version: 2,
             extent: 4096,
             name: text(0, 1),
@@ -180,7 +180,7 @@ fn rows_made_elsewhere() {
             values: text(0, 0),
             bytes: text(0, 0),
         }],
-        features: &[mvt::FeatureRow {
+        features: &[libmvt::FeatureRow {
             id: 7,
             has_id: 1,
             kind: Kind::Points as u32,
@@ -188,22 +188,22 @@ fn rows_made_elsewhere() {
             parts: text(0, 1),
             integers: text(0, 0),
         }],
-        parts: &[mvt::PartRow {
+        parts: &[libmvt::PartRow {
             exterior: 0,
             points: text(0, 1),
         }],
         points: &[Point::new(25, 17)],
         texts: b"a",
-        ..mvt::Rows::default()
+        ..libmvt::Rows::default()
     };
     assert_eq!(rows.judge(), Ok(()));
-    let tile = mvt::read(&rows.write().unwrap()).unwrap();
+    let tile = libmvt::read(&rows.write().unwrap()).unwrap();
     let layer = tile.layer("a").unwrap();
     let feature = layer.features().next().unwrap();
     assert_eq!(feature.id(), Some(7));
     assert_eq!(feature.parts().next().unwrap().points, [Point::new(25, 17)]);
-    assert_eq!(mvt::Rows::of(&tile).write(), mvt::write(&tile));
-    let without = mvt::Rows {
+    assert_eq!(libmvt::Rows::of(&tile).write(), libmvt::write(&tile));
+    let without = libmvt::Rows {
         points: &[],
         ..rows
     };
@@ -224,16 +224,16 @@ fn points_as_keys() {
 
 #[test]
 fn what_looks_compressed_is_said() {
-    let told = mvt::read(&[0x1f, 0x8b, 8, 0]).unwrap_err().to_string();
+    let told = libmvt::read(&[0x1f, 0x8b, 8, 0]).unwrap_err().to_string();
     assert!(told.contains("gzip") && !told.contains('\n'), "{told}");
 }
 
 #[test]
 fn what_bytes_look_like() {
     let page = b"<!DOCTYPE html>";
-    assert_eq!(mvt::looks_like(page), Some(mvt::lookalike::HTML));
-    assert_eq!(mvt::looks_like(b"\x1a\x03\x0a\x09ax\x02"), None);
-    assert_eq!(mvt::looks_like(b""), None);
+    assert_eq!(libmvt::looks_like(page), Some(libmvt::lookalike::HTML));
+    assert_eq!(libmvt::looks_like(b"\x1a\x03\x0a\x09ax\x02"), None);
+    assert_eq!(libmvt::looks_like(b""), None);
 }
 
 #[test]
@@ -247,7 +247,7 @@ fn keys_and_values_by_their_indices() {
     assert_eq!(builder.value(true), Ok(0));
     builder.feature(Kind::Lines).tag_at(1, 0).line();
     builder.point(1, 2).point(3, 4);
-    let tile = mvt::read(&builder.finish().unwrap()).unwrap();
+    let tile = libmvt::read(&builder.finish().unwrap()).unwrap();
     let layer = tile.layers().next().unwrap();
     assert_eq!(layer.keys().collect::<Vec<_>>(), ["two"]);
     assert_eq!(layer.values().collect::<Vec<_>>(), [Value::Bool(true)]);
@@ -266,7 +266,7 @@ fn what_goes_wrong_is_told() {
     match told {
         Error::NoTile(fault) => {
             assert_eq!((fault.layer, fault.feature, fault.cause), (0, Some(0), 17));
-            assert_eq!(fault.rule, Some(mvt::cause::COUNT));
+            assert_eq!(fault.rule, Some(libmvt::cause::COUNT));
             assert_eq!((fault.part, fault.point), (Some(0), None));
         }
         ref other => panic!("{other}"),
@@ -281,7 +281,7 @@ fn what_goes_wrong_is_told() {
     let told = builder.finish().unwrap_err();
     match told {
         Error::NoTile(fault) => {
-            assert_eq!(fault.rule, Some(mvt::cause::ZERO_SEGMENT));
+            assert_eq!(fault.rule, Some(libmvt::cause::ZERO_SEGMENT));
             assert_eq!((fault.part, fault.point), (Some(0), Some(2)));
         }
         ref other => panic!("{other}"),
@@ -305,32 +305,35 @@ fn what_goes_wrong_is_told() {
     let empty = [0x1a, 7, 0x78, 2, 0x0a, 1, b'a', 0x28, 1];
     assert_eq!(*builder.finish().unwrap(), empty);
     assert_eq!(
-        mvt::extract(&empty, &["a", "b", "c"]),
+        libmvt::extract(&empty, &["a", "b", "c"]),
         Err(Error::NoLayer("b".into()))
     );
     assert_eq!(
-        mvt::read_layer(&empty, "b").unwrap_err(),
+        libmvt::read_layer(&empty, "b").unwrap_err(),
         Error::NoLayer("b".into())
     );
-    assert_eq!(mvt::read_within(&empty, 3).unwrap_err(), Error::OutOfMemory);
+    assert_eq!(
+        libmvt::read_within(&empty, 3).unwrap_err(),
+        Error::OutOfMemory
+    );
     assert_eq!(Error::OutOfMemory.to_string(), "out of memory");
 }
 
 #[test]
 fn all_can_go_to_other_threads() {
     fn can<T: Send + Sync>() {}
-    can::<mvt::Tile>();
-    can::<mvt::Layer>();
-    can::<mvt::Feature>();
-    can::<mvt::Bytes>();
-    can::<mvt::Decoder>();
-    can::<mvt::Builder>();
-    can::<mvt::Error>();
+    can::<libmvt::Tile>();
+    can::<libmvt::Layer>();
+    can::<libmvt::Feature>();
+    can::<libmvt::Bytes>();
+    can::<libmvt::Decoder>();
+    can::<libmvt::Builder>();
+    can::<libmvt::Error>();
 }
 
 #[test]
 fn a_decoder_knows_what_looks_compressed() {
-    let mut decoder = mvt::Decoder::new().unwrap();
+    let mut decoder = libmvt::Decoder::new().unwrap();
     let told = decoder.feed(&[0x1f, 0x8b, 8, 0]);
     match told.and(decoder.finish().map(drop)) {
         Err(Error::Refused(fault)) => {
@@ -355,13 +358,13 @@ fn tiles_from_several_threads() {
 
 /// What is read is written, and read again as it was.
 fn read_again(bytes: &[u8]) {
-    if let Ok(tile) = mvt::read(bytes) {
+    if let Ok(tile) = libmvt::read(bytes) {
         let shown = format!("{tile:?}");
-        let canonical = mvt::write(&tile).unwrap();
-        assert_eq!(format!("{:?}", mvt::read(&canonical).unwrap()), shown);
-        assert_eq!(canonical, mvt::rewrite(bytes).unwrap());
+        let canonical = libmvt::write(&tile).unwrap();
+        assert_eq!(format!("{:?}", libmvt::read(&canonical).unwrap()), shown);
+        assert_eq!(canonical, libmvt::rewrite(bytes).unwrap());
     } else {
-        assert!(matches!(mvt::judge(bytes), Err(Error::Refused(_))));
+        assert!(matches!(libmvt::judge(bytes), Err(Error::Refused(_))));
     }
 }
 
@@ -386,7 +389,7 @@ fn notes_and_findings_are_values() {
         .point(40000, 1)
         .layer("c", 4096);
     let tile = builder.finish().unwrap();
-    let told = mvt::survey(&tile).unwrap();
+    let told = libmvt::survey(&tile).unwrap();
     assert_eq!(
         (told.layers, told.features, told.is_canonical),
         (4, 4, true)
@@ -426,17 +429,17 @@ fn notes_and_findings_are_values() {
             feature: 0,
         },
     ];
-    assert_eq!(mvt::lint_rows(&tile).unwrap(), findings);
+    assert_eq!(libmvt::lint_rows(&tile).unwrap(), findings);
     assert_eq!(notes[2].to_string(), "A layer has no feature.");
     assert!(findings[4]
         .to_string()
         .starts_with("An id is beyond 2^53 - 1."));
-    let Error::Refused(fault) = mvt::survey(&[0]).unwrap_err() else {
+    let Error::Refused(fault) = libmvt::survey(&[0]).unwrap_err() else {
         panic!("a broken tile is surveyed");
     };
     assert_eq!(
         (fault.cause, fault.name.as_str()),
-        (mvt::cause::FIELD_NUMBER, "FieldNumber")
+        (libmvt::cause::FIELD_NUMBER, "FieldNumber")
     );
 }
 
@@ -446,10 +449,10 @@ fn tells_what_is_round_a_fault() {
     let tile = [
         0x1a, 18, 0x78, 2, 0x0a, 1, b'a', 0x12, 11, 0x18, 2, 0x22, 7, 9, 4, 4, 10, 0, 0, 0,
     ];
-    let Error::Refused(fault) = mvt::judge(&tile).unwrap_err() else {
+    let Error::Refused(fault) = libmvt::judge(&tile).unwrap_err() else {
         panic!("a broken tile is accepted");
     };
-    let told = mvt::around(&tile, &fault).unwrap();
+    let told = libmvt::around(&tile, &fault).unwrap();
     let (layer, feature) = (told.layer.unwrap(), told.feature.unwrap());
     assert_eq!((layer.body, feature.start, told.message), (2, 7, feature));
     assert_eq!(
@@ -459,13 +462,13 @@ fn tells_what_is_round_a_fault() {
     let integer = told.geometry[fault.at as usize];
     assert_eq!(Some(integer.start..integer.end), fault.bytes);
     let point = told.steps[2];
-    assert_eq!((point.role, point.x, point.y), (mvt::role::MOVE_Y, 2, 2));
+    assert_eq!((point.role, point.x, point.y), (libmvt::role::MOVE_Y, 2, 2));
     assert_eq!(told.fields[1].bounds.end, 20);
-    let nowhere = mvt::Refused {
+    let nowhere = libmvt::Refused {
         layer: Some(9),
         ..*fault
     };
-    let told = mvt::around(&[], &nowhere).unwrap();
+    let told = libmvt::around(&[], &nowhere).unwrap();
     assert_eq!(
         (told.layer, told.steps.len(), told.fields.len()),
         (None, 0, 0)
@@ -486,7 +489,7 @@ fn mended() {
         .points(&turned)
         .finish()
         .unwrap();
-    let told = mvt::mend(ring).unwrap();
+    let told = libmvt::mend(ring).unwrap();
     let change = Change::TurnedRing {
         layer: 0,
         feature: 0,
@@ -494,7 +497,7 @@ fn mended() {
     };
     assert_eq!((told.bytes, told.changes), (wanted, vec![change]));
     let line = b"\x1a\x11\x78\x02\x0a\x01a\x12\x0a\x18\x02\x22\x06\x09\x04\x04\x0a\0\0";
-    let told = mvt::mend(line).unwrap();
+    let told = libmvt::mend(line).unwrap();
     assert_eq!(
         told.changes,
         [Change::FeatureLeftOut {
@@ -507,7 +510,7 @@ fn mended() {
         told.bytes,
         Builder::new().layer("a", 4096).finish().unwrap()
     );
-    let again = mvt::mend(&told.bytes).unwrap();
+    let again = libmvt::mend(&told.bytes).unwrap();
     assert_eq!((&again.bytes, again.changes.len()), (&told.bytes, 0));
-    assert!(matches!(mvt::mend(&[0]), Err(Error::Refused(_))));
+    assert!(matches!(libmvt::mend(&[0]), Err(Error::Refused(_))));
 }

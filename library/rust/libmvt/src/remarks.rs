@@ -88,10 +88,10 @@ pub enum Finding {
 ///
 /// ```
 /// let tile = [0x1a, 7, 0x78, 2, 0x0a, 1, b'a', 0x28, 1];
-/// let summary = mvt::survey(&tile)?;
+/// let summary = libmvt::survey(&tile)?;
 /// assert_eq!((summary.layers, summary.is_canonical), (1, true));
-/// assert_eq!(summary.notes, [mvt::Note::NoFeatures { layer: 0 }]);
-/// # Ok::<(), mvt::Error>(())
+/// assert_eq!(summary.notes, [libmvt::Note::NoFeatures { layer: 0 }]);
+/// # Ok::<(), libmvt::Error>(())
 /// ```
 ///
 /// # Errors

@@ -1,7 +1,7 @@
 """Reads, judges and writes Mapbox Vector Tiles, by the proved library `libmvt`.
 
-    >>> import mvt
-    >>> tile = mvt.read(open("town.mvt", "rb").read())
+    >>> import libmvt
+    >>> tile = libmvt.read(open("town.mvt", "rb").read())
     >>> tile["water"].features[0].attributes
     {'name': 'Mill Pond', 'salt': False}
     >>> [(layer.name, len(layer.features)) for layer in tile if layer.version == 2]
@@ -16,7 +16,7 @@ from importlib.util import find_spec as _find_spec
 from typing import TYPE_CHECKING, Any, Union
 
 if _find_spec("._mvt", __name__) is None:
-    raise ModuleNotFoundError(f"{__path__[0]} has no _mvt.abi3.so: `library/build` makes it", name="mvt._mvt")
+    raise ModuleNotFoundError(f"{__path__[0]} has no _mvt.abi3.so: `library/build` makes it", name="libmvt._mvt")
 
 from ._around import Around, around
 from ._errors import MvtError, NoLayer, NoTile, OutOfRange, Refused, TooLarge

@@ -12,7 +12,7 @@ use std::{fmt, ptr, str};
 /// the tile:
 ///
 /// ```compile_fail
-/// let layers = mvt::read(&[]).unwrap().layers(); // give the tile a name first
+/// let layers = libmvt::read(&[]).unwrap().layers(); // give the tile a name first
 /// println!("{}", layers.len());
 /// ```
 ///

@@ -1,21 +1,21 @@
 //! Reads, judges and writes Mapbox Vector Tiles, by the proved library `libmvt`.
 //!
 //! ```
-//! use mvt::{Builder, Kind};
+//! use libmvt::{Builder, Kind};
 //!
 //! let mut builder = Builder::new();
 //! builder.layer("places", 4096);
 //! builder.feature(Kind::Points).id(7).tag("name", "Mill Pond").tag("depth", 3.5).point(25, 17);
 //! let bytes = builder.finish()?;
 //!
-//! let tile = mvt::read(&bytes)?;
+//! let tile = libmvt::read(&bytes)?;
 //! for layer in tile.layers().filter(|layer| layer.version() == 2) {
 //!     println!("{}: {} features", layer.name(), layer.features().len());
 //!     for (key, value) in layer.features().flat_map(|feature| feature.attributes()) {
 //!         println!("  {key}: {value}");
 //!     }
 //! }
-//! # Ok::<(), mvt::Error>(())
+//! # Ok::<(), libmvt::Error>(())
 //! ```
 //!
 //! Bytes that break a rule of the Mapbox Vector Tile Specification 2.1 give [`Error::Refused`], which tells the layer, the
@@ -39,7 +39,7 @@ mod rows;
 mod tile;
 mod value;
 
-use mvt_sys as sys;
+use libmvt_sys as sys;
 
 pub use around::{around, Around, Bounds, FieldRow, Integer, Step};
 pub use builder::Builder;
@@ -52,8 +52,8 @@ pub use error::{Error, Refused, RowsFault};
 pub use feature::{Attributes, Feature, Features};
 pub use geometry::{Kind, Part, Parts, Point};
 pub use layer::{Layer, Layers};
+pub use libmvt_sys::{cause, lookalike, role, rows_cause, LIMIT};
 pub use mending::{mend, Change, Mended};
-pub use mvt_sys::{cause, lookalike, role, rows_cause, LIMIT};
 pub use output::Bytes;
 pub use remarks::{lint_rows, survey, Finding, Note, Summary};
 pub use rows::{FeatureRow, LayerRow, PartRow, Rows, Span, ValueRow};

@@ -104,11 +104,11 @@ impl<'t> From<&'t String> for Value<'t> {
 ///
 /// ```
 /// let name = String::from("Mill Pond");
-/// let mut builder = mvt::Builder::new();
-/// builder.layer("water", 4096).feature(mvt::Kind::Points).point(25, 17);
-/// builder.tag("name", &name).tag("also", name).tag("boats", 3_usize).tag("depth", mvt::Value::Int(5));
+/// let mut builder = libmvt::Builder::new();
+/// builder.layer("water", 4096).feature(libmvt::Kind::Points).point(25, 17);
+/// builder.tag("name", &name).tag("also", name).tag("boats", 3_usize).tag("depth", libmvt::Value::Int(5));
 /// # builder.finish()?;
-/// # Ok::<(), mvt::Error>(())
+/// # Ok::<(), libmvt::Error>(())
 /// ```
 pub trait ToValue {
     /// The value, with the text lent.

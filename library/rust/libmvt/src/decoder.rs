@@ -9,12 +9,12 @@ use std::io;
 ///
 /// ```
 /// let tile = [0x1a, 0x05, 0x78, 0x02, 0x0a, 0x01, b'a'];
-/// let mut decoder = mvt::Decoder::new()?;
+/// let mut decoder = libmvt::Decoder::new()?;
 /// for piece in tile.chunks(3) {
 ///     decoder.feed(piece)?;
 /// }
 /// assert_eq!(decoder.finish()?.layers().len(), 1);
-/// # Ok::<(), mvt::Error>(())
+/// # Ok::<(), libmvt::Error>(())
 /// ```
 ///
 /// It is a [`Write`](io::Write) too, so that `io::copy` fills it.

@@ -12,11 +12,11 @@ pub use crate::sys::{
 /// features, keys and values, a feature to its tags and parts, a part to its points. All texts lie in one list of bytes.
 ///
 /// ```
-/// let tile = mvt::Builder::new().layer("a", 4096).feature(mvt::Kind::Points).point(1, 2).finish()?;
-/// let tile = mvt::read(&tile)?;
-/// let moved: Vec<_> = mvt::Rows::of(&tile).points.iter().map(|at| mvt::Point::new(at.x + 10, at.y)).collect();
-/// let tile = mvt::Rows { points: &moved, ..mvt::Rows::of(&tile) }.write()?;
-/// # Ok::<(), mvt::Error>(())
+/// let tile = libmvt::Builder::new().layer("a", 4096).feature(libmvt::Kind::Points).point(1, 2).finish()?;
+/// let tile = libmvt::read(&tile)?;
+/// let moved: Vec<_> = libmvt::Rows::of(&tile).points.iter().map(|at| libmvt::Point::new(at.x + 10, at.y)).collect();
+/// let tile = libmvt::Rows { points: &moved, ..libmvt::Rows::of(&tile) }.write()?;
+/// # Ok::<(), libmvt::Error>(())
 /// ```
 #[derive(Clone, Copy, Debug, Default)]
 pub struct Rows<'r> {

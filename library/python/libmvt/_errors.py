@@ -75,7 +75,7 @@ class NoTile(MvtError):
 
     For rows, `layer` and `feature` are the indices of the first fault (`feature` is None if the fault is in no feature),
     and `cause` is its number (`mvt_rows_cause` of mvt.h). Of a geometry that no commands draw `rule` is the number of the
-    first rule that it breaks (`mvt_cause`; `mvt.CAUSES` has the names), `part` the index of the line or ring, and `point`
+    first rule that it breaks (`mvt_cause`; `libmvt.CAUSES` has the names), `part` the index of the line or ring, and `point`
     that of the point in it (None if the part as a whole breaks the rule).
     """
 

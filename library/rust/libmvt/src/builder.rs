@@ -8,14 +8,14 @@ use crate::{sys, Bytes, Error, Kind, Point, ToValue, Value};
 /// Makes a tile step by step: begin a layer, begin a feature, add its tags and points, and finish.
 ///
 /// ```
-/// use mvt::{Builder, Kind, Point};
+/// use libmvt::{Builder, Kind, Point};
 ///
 /// let mut builder = Builder::new();
 /// builder.layer("water", 4096);
 /// builder.feature(Kind::Polygons).tag("salt", false).ring(true);
 /// builder.points(&[Point::new(0, 0), Point::new(10, 0), Point::new(0, 10)]);
 /// let bytes = builder.finish()?;
-/// # Ok::<(), mvt::Error>(())
+/// # Ok::<(), libmvt::Error>(())
 /// ```
 ///
 /// After a call that the builder doesn't expect, or when memory runs out, each further call does nothing, and

@@ -2,7 +2,7 @@
 
 pub mod told;
 
-use mvt::{Decoder, Error, Refused};
+use libmvt::{Decoder, Error, Refused};
 use std::io;
 use told::{cases, Case};
 
@@ -16,7 +16,7 @@ fn each_case_is_as_the_program_says() {
     let all = cases();
     assert!(all.len() > 60, "the example tiles, broken ones included");
     for case in &all {
-        match mvt::judge(&case.tile) {
+        match libmvt::judge(&case.tile) {
             Ok(()) => accepted(case),
             Err(Error::Refused(fault)) => refused(case, *fault),
             Err(other) => panic!("{}: {other}", case.name),
@@ -27,20 +27,23 @@ fn each_case_is_as_the_program_says() {
 fn accepted(case: &Case) {
     let (name, tile) = (&case.name, case.tile.as_slice());
     let canonical = case.bytes("canonical");
-    assert_eq!(mvt::report(tile).unwrap(), case.said("check"), "{name}");
-    assert_eq!(mvt::lint(tile).unwrap(), case.said("lint"), "{name}");
+    assert_eq!(libmvt::report(tile).unwrap(), case.said("check"), "{name}");
+    assert_eq!(libmvt::lint(tile).unwrap(), case.said("lint"), "{name}");
     remarked(case);
-    let (json, svg) = (mvt::to_json(tile).unwrap(), mvt::to_svg(tile).unwrap());
+    let (json, svg) = (
+        libmvt::to_json(tile).unwrap(),
+        libmvt::to_svg(tile).unwrap(),
+    );
     assert_eq!(json + "\n", case.said("show"), "{name}");
     assert_eq!(svg + "\n", case.said("draw"), "{name}");
-    assert_eq!(*mvt::rewrite(tile).unwrap(), canonical, "{name}");
-    let read = mvt::read(tile).unwrap();
-    assert_eq!(*mvt::write(&read).unwrap(), canonical, "{name}");
+    assert_eq!(*libmvt::rewrite(tile).unwrap(), canonical, "{name}");
+    let read = libmvt::read(tile).unwrap();
+    assert_eq!(*libmvt::write(&read).unwrap(), canonical, "{name}");
     let mut decoder = Decoder::new().unwrap();
     pieces(tile).for_each(|piece| decoder.feed(piece).unwrap());
-    let decoded = mvt::write(&decoder.finish().unwrap()).unwrap();
+    let decoded = libmvt::write(&decoder.finish().unwrap()).unwrap();
     assert_eq!(*decoded, canonical, "{name}");
-    let mended = mvt::mend(tile).unwrap();
+    let mended = libmvt::mend(tile).unwrap();
     assert_eq!(
         (&*mended.bytes, mended.changes.len()),
         (&canonical[..], 0),
@@ -51,14 +54,14 @@ fn accepted(case: &Case) {
 
 /// The notes and the findings are as many as the lines, and the counts are theirs.
 fn remarked(case: &Case) {
-    let survey = mvt::survey(&case.tile).unwrap();
+    let survey = libmvt::survey(&case.tile).unwrap();
     let canonical = if survey.is_canonical { "yes" } else { "no" };
     let (layers, features) = (survey.layers, survey.features);
     let first = format!("ok layers {layers} features {features} canonical {canonical}");
     let lines: Vec<_> = case.said("check").lines().collect();
     let told = (lines[0], lines.len() - 1);
     assert_eq!(told, (&*first, survey.notes.len()), "{}", case.name);
-    let found = mvt::lint_rows(&case.tile).unwrap();
+    let found = libmvt::lint_rows(&case.tile).unwrap();
     assert_eq!(
         found.len(),
         case.said("lint").lines().count(),
@@ -67,12 +70,12 @@ fn remarked(case: &Case) {
     );
 }
 
-fn extracted(case: &Case, read: &mvt::Tile) {
+fn extracted(case: &Case, read: &libmvt::Tile) {
     for (layer, wanted) in case.layers() {
-        let alone = mvt::read_layer(&case.tile, layer).unwrap();
+        let alone = libmvt::read_layer(&case.tile, layer).unwrap();
         assert_eq!(alone.layer(layer), read.layer(layer), "{}", case.name);
-        assert_eq!(*mvt::write(&alone).unwrap(), wanted, "{}", case.name);
-        let extracted = mvt::extract(&case.tile, &[layer]).unwrap();
+        assert_eq!(*libmvt::write(&alone).unwrap(), wanted, "{}", case.name);
+        let extracted = libmvt::extract(&case.tile, &[layer]).unwrap();
         assert_eq!(*extracted, wanted, "{}", case.name);
     }
 }
@@ -86,15 +89,15 @@ fn refused(case: &Case, fault: Refused) {
     assert_eq!(place, case.said("place"), "{name}");
     let sentence = format!("{}\n", fault.explanation);
     assert_eq!(sentence, case.said("sentence"), "{name}");
-    let error = mvt::judge(tile).unwrap_err();
+    let error = libmvt::judge(tile).unwrap_err();
     assert_eq!(error.to_string(), format!("{line}: {}", fault.explanation));
     for other in [
-        mvt::read(tile).map(drop),
-        mvt::rewrite(tile).map(drop),
-        mvt::to_json(tile).map(drop),
-        mvt::survey(tile).map(drop),
-        mvt::lint_rows(tile).map(drop),
-        mvt::extract(tile, &[]).map(drop),
+        libmvt::read(tile).map(drop),
+        libmvt::rewrite(tile).map(drop),
+        libmvt::to_json(tile).map(drop),
+        libmvt::survey(tile).map(drop),
+        libmvt::lint_rows(tile).map(drop),
+        libmvt::extract(tile, &[]).map(drop),
     ] {
         assert_eq!(other.unwrap_err(), error, "{name}");
     }
@@ -107,7 +110,7 @@ fn refused(case: &Case, fault: Refused) {
 }
 
 fn mended(case: &Case, error: &Error) {
-    match mvt::mend(&case.tile) {
+    match libmvt::mend(&case.tile) {
         Ok(mended) => {
             let lines = mended.changes.iter().map(|change| format!("{change}\n"));
             assert_eq!(

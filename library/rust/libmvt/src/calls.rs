@@ -52,8 +52,8 @@ fn text(bytes: &[u8], call: Making<sys::Bytes>) -> Result<String, Error> {
 /// Whether the bytes are a tile. Makes nothing, so this is the fastest check.
 ///
 /// ```
-/// match mvt::judge(&[0x1a, 2, 0x78, 2]) {
-///     Err(mvt::Error::Refused(fault)) => {
+/// match libmvt::judge(&[0x1a, 2, 0x78, 2]) {
+///     Err(libmvt::Error::Refused(fault)) => {
 ///         assert_eq!(fault.to_string(), "layer 0 feature - at 0: 10 NoName");
 ///     }
 ///     other => panic!("{other:?}"),
@@ -77,7 +77,7 @@ pub fn judge(bytes: &[u8]) -> Result<(), Error> {
 /// meant as a tile. An accepted tile may begin as something else does.
 ///
 /// ```
-/// assert_eq!(mvt::looks_like(b"GIF89a"), Some(mvt::lookalike::GIF));
+/// assert_eq!(libmvt::looks_like(b"GIF89a"), Some(libmvt::lookalike::GIF));
 /// ```
 pub fn looks_like(bytes: &[u8]) -> Option<u32> {
     // SAFETY: the bytes are lent for the call.
@@ -89,9 +89,9 @@ pub fn looks_like(bytes: &[u8]) -> Option<u32> {
 ///
 /// ```
 /// let bytes = [0x1a, 5, 0x78, 2, 0x0a, 1, b'a'];
-/// let tile = mvt::read(&bytes)?;
+/// let tile = libmvt::read(&bytes)?;
 /// assert_eq!(tile.layers().map(|layer| layer.name()).collect::<Vec<_>>(), ["a"]);
-/// # Ok::<(), mvt::Error>(())
+/// # Ok::<(), libmvt::Error>(())
 /// ```
 ///
 /// # Errors
@@ -154,11 +154,11 @@ pub fn rewrite(bytes: &[u8]) -> Result<Bytes, Error> {
 /// without names the tile has no layers.
 ///
 /// ```
-/// use mvt::Error;
+/// use libmvt::Error;
 ///
-/// let bytes = mvt::Builder::new().layer("a", 4096).layer("b", 4096).finish()?;
-/// assert_eq!(mvt::read(&mvt::extract(&bytes, &["b"])?)?.layers().len(), 1);
-/// assert_eq!(mvt::extract(&bytes, &["b", "c"]), Err(Error::NoLayer("c".into())));
+/// let bytes = libmvt::Builder::new().layer("a", 4096).layer("b", 4096).finish()?;
+/// assert_eq!(libmvt::read(&libmvt::extract(&bytes, &["b"])?)?.layers().len(), 1);
+/// assert_eq!(libmvt::extract(&bytes, &["b", "c"]), Err(Error::NoLayer("c".into())));
 /// # Ok::<(), Error>(())
 /// ```
 ///

@@ -37,10 +37,10 @@ pub struct Around {
 ///
 /// ```
 /// let tile = [0x1a, 9, 0x78, 2, 0x0a, 0, 0x12, 3, 0x20, 0x0b, 0];
-/// let Err(mvt::Error::Refused(fault)) = mvt::judge(&tile) else { panic!() };
-/// let around = mvt::around(&tile, &fault)?;
+/// let Err(libmvt::Error::Refused(fault)) = libmvt::judge(&tile) else { panic!() };
+/// let around = libmvt::around(&tile, &fault)?;
 /// assert_eq!(around.layer.map(|layer| layer.body), Some(2));
-/// # Ok::<(), mvt::Error>(())
+/// # Ok::<(), libmvt::Error>(())
 /// ```
 ///
 /// # Errors
