@@ -21,7 +21,7 @@ from contextlib import closing
 from pathlib import Path
 
 import psutil
-from libmvt._mvt import looked_at, survey_rows
+from libmvt.raw import looked_at, survey_rows
 from mvt_tools.audit import engine, processes
 from mvt_tools.audit.judging import judged_part
 from mvt_tools.audit.results import Block, Results

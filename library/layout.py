@@ -172,7 +172,8 @@ def python(header):
     lines += ["# A tile has at most so many bytes.", f"LIMIT = {header.limit}"]
     for enum in TOLD:
         names = [f'    {number}: "{name}",' for name, number in named(header, enum)]
-        lines += ["", f"{enum.removeprefix('mvt_').upper()}S = {{", *names, "}"]
+        kind = enum.removeprefix("mvt_")
+        lines += ["", f"# What each {kind} is called, by its number.", f"{kind.upper()}S = {{", *names, "}"]
     return "\n".join([*lines, ""])
 
 

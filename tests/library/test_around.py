@@ -4,7 +4,7 @@ import unittest
 from pathlib import Path
 
 import libmvt
-from libmvt._around import Bounds, Field, Integer, Path as Drawn, Role, Step
+from libmvt import Bounds, Field, Integer, Path as Drawn, Role, Step
 
 BROKEN = Path(__file__).resolve().parents[2] / "fixtures" / "tiles" / "broken"
 

@@ -8,6 +8,7 @@ import subprocess
 import sys
 
 import libmvt
+import libmvt.raw
 import pytest
 from documented import PROGRAMS, program_of
 from room import BUILT, CXX, MVT, TILES, TOP, made, needs, run
@@ -135,8 +136,9 @@ def test_a_bound_of_the_program(shared):
 def test_the_module_s_own_example(tmp_path, monkeypatch):
     shutil.copy(GDAL, tmp_path / "town.mvt")
     monkeypatch.chdir(tmp_path)
-    told = doctest.testmod(libmvt)
-    assert told.failed == 0 and told.attempted >= 4
+    for of in (libmvt, libmvt.raw):
+        told = doctest.testmod(of)
+        assert told.failed == 0 and told.attempted >= 4, of
 
 
 def test_each_program_stands_in_the_document():

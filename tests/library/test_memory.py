@@ -9,7 +9,7 @@ import unittest
 from pathlib import Path
 
 import libmvt
-from libmvt._mvt import json_lent, lint_rows, lookalike, looked_at, mend_rows, survey_rows, svg_lent
+from libmvt.raw import json_lent, lint_rows, lookalike, looked_at, mend_rows, survey_rows, svg_lent
 
 TILES = Path(__file__).resolve().parents[2] / "fixtures" / "tiles"
 TILE = (TILES / "gdal.mvt").read_bytes()
@@ -75,7 +75,7 @@ GOOD = (
     lambda: mend_rows(BROKEN),
     lambda: memoryview(json_lent(TILE)).nbytes,
     lambda: memoryview(svg_lent(TILE)).nbytes,
-    lambda: [memoryview(each).nbytes for each in libmvt.rows(TILE)._lent()],
+    lambda: [memoryview(each).nbytes for each in libmvt.rows(TILE).buffers()],
     lambda: libmvt.rewrite(TILE),
     lambda: libmvt.to_json(TILE),
     lambda: libmvt.to_svg(TILE),

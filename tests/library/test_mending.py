@@ -4,7 +4,7 @@ import unittest
 from pathlib import Path
 
 import libmvt
-from libmvt._mending import change_of
+from libmvt.raw import change_of
 
 TILES = Path(__file__).resolve().parents[2] / "fixtures" / "tiles"
 

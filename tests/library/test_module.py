@@ -6,6 +6,9 @@ import copy
 import dataclasses
 import gc
 import gzip
+import importlib
+import importlib.util
+import inspect
 import io
 import os
 import pickle
@@ -22,8 +25,7 @@ from pathlib import Path
 from xml.etree import ElementTree
 
 import libmvt
-from libmvt._mvt import cause_text, finding_text, note_text
-from libmvt._numbers import FINDINGS, NOTES
+from libmvt import FINDINGS, NOTES, cause_text, finding_text, note_text
 from shown import shown_value
 
 sys.path.insert(0, str(Path(__file__).resolve().parents[1] / "program"))
@@ -54,6 +56,22 @@ def told(row):
 
 def zigzags(*numbers):
     return packed(map(zigzag, numbers))
+
+
+class Names(unittest.TestCase):
+    def test_each_public_class_and_call_says_what_it_is(self):
+        for module in map(importlib.import_module, ("libmvt", "libmvt.raw", "libmvt.geojson", "libmvt.mercator")):
+            self.assertEqual(sorted(set(module.__all__)), sorted(module.__all__))
+            for name in module.__all__:
+                if name == "Frame" and importlib.util.find_spec("numpy") is None:
+                    continue
+                of = getattr(module, name)
+                if isinstance(of, type) or inspect.isroutine(of):
+                    self.assertTrue(inspect.getdoc(of), f"{module.__name__}.{name}")
+
+    def test_a_name_that_is_none(self):
+        with self.assertRaisesRegex(AttributeError, "module 'libmvt' has no attribute 'Frames'"):
+            libmvt.Frames
 
 
 class WholeTiles(unittest.TestCase):

@@ -5,7 +5,7 @@ import unittest
 
 import libmvt
 import places
-from libmvt._numbers import LOOKALIKES
+from libmvt import LOOKALIKES
 
 
 class Places(unittest.TestCase):

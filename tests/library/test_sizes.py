@@ -9,7 +9,7 @@ import unittest
 from pathlib import Path
 
 import libmvt
-from libmvt._mvt import measured
+from libmvt.raw import measured
 from shown import shown
 
 sys.path.insert(0, str(Path(__file__).resolve().parents[1] / "program"))

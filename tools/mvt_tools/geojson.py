@@ -6,7 +6,7 @@ import sys
 from typing import Any, Dict, Iterator, List, Optional, Sequence, Set
 
 from libmvt import rows
-from libmvt.geojson.making import DECIMALS, Part, objects_of, parts_of
+from libmvt.geojson import DECIMALS, Part, objects_of, parts_of
 
 from . import _given, foreign
 from ._ending import USAGE, Output, say

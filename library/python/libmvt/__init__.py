@@ -18,7 +18,7 @@ from typing import TYPE_CHECKING, Any, Union
 if _find_spec("._mvt", __name__) is None:
     raise ModuleNotFoundError(f"{__path__[0]} has no _mvt.abi3.so: `library/build` makes it", name="libmvt._mvt")
 
-from ._around import Around, around
+from ._around import Around, Bounds, Field, Integer, Path, Role, Step, around
 from ._errors import MvtError, NoLayer, NoTile, OutOfRange, Refused, TooLarge
 from ._mending import Change, Mended, mend
 from ._mvt import (
@@ -31,8 +31,11 @@ from ._mvt import (
     Rows,
     Span,
     ValueRow,
+    cause_text,
     extract,
+    finding_text,
     judge,
+    note_text,
     read,
     read_layer,
     rewrite,
@@ -42,7 +45,7 @@ from ._mvt import (
     version,
     write,
 )
-from ._numbers import CAUSES, LIMIT
+from ._numbers import CAUSES, CHANGES, FINDINGS, LIMIT, LOOKALIKES, NOTES
 from ._remarks import Finding, Note, Report, Survey, lint, looks_like, report, survey
 from ._tiles import Feature, Foreign, Kind, Layer, Point, Tile
 from ._values import Float, Int, Sint, Uint, Value
@@ -78,38 +81,58 @@ def to_geopandas(layer: "Union[Layer, Frame]", z: int, x: int, y: int, decimals:
     return to_geopandas(layer, z, x, y, decimals)
 
 
+def __getattr__(name: str) -> Any:
+    """`Frame`, the class of what `Rows.frame` makes, which wants numpy."""
+    if name != "Frame":
+        raise AttributeError(f"module {__name__!r} has no attribute {name!r}")
+    from ._frames import Frame
+
+    return Frame
+
+
 __all__ = [
     "Around",
+    "Bounds",
     "Buffer",
     "Builder",
     "CAUSES",
+    "CHANGES",
     "Change",
     "Decoder",
+    "FINDINGS",
     "Feature",
     "FeatureRow",
+    "Field",
     "Finding",
     "Float",
     "Foreign",
+    "Frame",
     "Int",
+    "Integer",
     "Kind",
     "LIMIT",
+    "LOOKALIKES",
     "Layer",
     "LayerRow",
     "MadeLayer",
     "Mended",
     "MvtError",
+    "NOTES",
     "NoLayer",
     "NoTile",
     "Note",
     "OutOfRange",
     "PartRow",
+    "Path",
     "Point",
     "PointRow",
     "Refused",
     "Report",
+    "Role",
     "Rows",
     "Sint",
     "Span",
+    "Step",
     "Survey",
     "Tile",
     "TooLarge",
@@ -118,13 +141,16 @@ __all__ = [
     "ValueRow",
     "Vanished",
     "around",
+    "cause_text",
     "dtype",
     "extract",
+    "finding_text",
     "from_geojson",
     "judge",
     "lint",
     "looks_like",
     "mend",
+    "note_text",
     "read",
     "read_layer",
     "report",

@@ -10,7 +10,7 @@ from ._numbers import CHANGES
 _Buffer = Union[bytes, bytearray, memoryview]
 
 # A change, as mvt.h has it.
-ROW = Struct("<I4xQQQQQ")
+CHANGE_ROW = Struct("<I4xQQQQQ")
 
 
 @dataclass(frozen=True)
@@ -53,7 +53,7 @@ def mend(tile: _Buffer) -> Mended:
     stands, where it breaks another rule too, and TooLarge.
     """
     made, rows = mend_rows(tile)
-    return Mended(made, list(map(change_of, ROW.iter_unpack(rows))))
+    return Mended(made, list(map(change_of, CHANGE_ROW.iter_unpack(rows))))
 
 
 def change_of(row: Sequence[int]) -> Change:

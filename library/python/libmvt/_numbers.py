@@ -3,6 +3,7 @@
 # A tile has at most so many bytes.
 LIMIT = 67108864
 
+# What each cause is called, by its number.
 CAUSES = {
     1: "Truncated",
     2: "VarintRange",
@@ -33,6 +34,7 @@ CAUSES = {
     28: "InteriorRing",
 }
 
+# What each note is called, by its number.
 NOTES = {
     1: "NoLayers",
     2: "Foreign",
@@ -42,6 +44,7 @@ NOTES = {
     6: "ClosedTwice",
 }
 
+# What each finding is called, by its number.
 FINDINGS = {
     1: "ZeroExtent",
     2: "NoGeometry",
@@ -51,6 +54,7 @@ FINDINGS = {
     6: "LargeNumber",
 }
 
+# What each change is called, by its number.
 CHANGES = {
     1: "TurnedRing",
     2: "RepeatedPoint",
@@ -59,6 +63,7 @@ CHANGES = {
     5: "MovedRing",
 }
 
+# What each lookalike is called, by its number.
 LOOKALIKES = {
     1: "Gzip",
     2: "Zlib",

@@ -22,7 +22,7 @@ _OF_NOTE = {
 }
 _NUMBERS = {name: number for numbers in (NOTES, FINDINGS) for number, name in numbers.items()}
 # Their rows, as mvt.h has them.
-_NOTE_ROW, _FINDING_ROW = Struct("<IIQQQQ"), Struct("<IIQQQii")
+NOTE_ROW, FINDING_ROW = Struct("<IIQQQQ"), Struct("<IIQQQii")
 
 
 @dataclass(frozen=True)
@@ -127,7 +127,7 @@ def survey(tile: _Buffer) -> Survey:
     Raises Refused.
     """
     layers, features, canonical, notes = survey_rows(tile)
-    return Survey(layers, features, canonical, list(map(note_of, _NOTE_ROW.iter_unpack(notes))))
+    return Survey(layers, features, canonical, list(map(note_of, NOTE_ROW.iter_unpack(notes))))
 
 
 def report(tile: _Buffer) -> Report:
@@ -145,7 +145,7 @@ def lint(tile: _Buffer) -> List[Finding]:
 
     What is found breaks no rule: `judge` accepts such a tile. Raises Refused.
     """
-    return list(map(finding_of, _FINDING_ROW.iter_unpack(lint_rows(tile))))
+    return list(map(finding_of, FINDING_ROW.iter_unpack(lint_rows(tile))))
 
 
 def looks_like(tile: _Buffer) -> Optional[str]:

@@ -184,7 +184,7 @@ static PyObject *flat_reduce(PyObject *self, PyObject *unused) {
     return NULL;
 }
 
-static PyObject *flat_lent(PyObject *self, PyObject *unused) {
+static PyObject *flat_buffers(PyObject *self, PyObject *unused) {
     (void)unused;
     const flat *of = (flat *)self;
     PyObject *told = PyTuple_New(LISTS);
@@ -223,7 +223,8 @@ static PyMethodDef FLAT_METHODS[] = {
      "The fields of an array of rows are those of `libmvt.dtype(name)`. Keys, parts and points may also be given as\n"
      "numbers, with a row for each and a column for each number: `points` as x and y. `texts` may be bytes. A list\n"
      "that isn't named is empty. The arrays are copied. Raises OverflowError for a number that a row has no room for."},
-    {"_lent", flat_lent, METH_NOARGS, "_lent($self)\n--\n\nThe bytes of each list, over the library's memory."},
+    {"buffers", flat_buffers, METH_NOARGS,
+     "buffers($self)\n--\n\nThe bytes of each list, in the order of mvt_tile, over the library's memory."},
     {"__reduce__", flat_reduce, METH_NOARGS, NULL},
     {NULL, NULL, 0, NULL},
 };

@@ -7,7 +7,7 @@ from pathlib import Path
 
 import libmvt
 from common import TOP, example_tiles
-from libmvt._mvt import cause_text
+from libmvt import cause_text
 from mvt_tools.audit.report import maps, pictures, sentences, shapes
 from wire import field, packed
 

@@ -8,7 +8,7 @@ import archives
 import libmvt
 import pytest
 from common import EVIDENCE, audit, example_tiles, make_mbtiles, make_tree, rows
-from libmvt._mvt import measured
+from libmvt.raw import measured
 from mvt_tools import bounds
 from mvt_tools.audit import sizes
 from mvt_tools.stores import Address

@@ -6,7 +6,7 @@ from types import SimpleNamespace
 import cases
 import places
 import pytest
-from libmvt._numbers import LOOKALIKES
+from libmvt import LOOKALIKES
 from room import others
 
 

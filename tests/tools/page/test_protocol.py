@@ -22,7 +22,7 @@ from pathlib import Path
 from xml.etree import ElementTree
 
 import libmvt
-from libmvt._mvt import measured
+from libmvt.raw import measured
 from mvt_tools.page.differ import first_difference
 from serving import COMMAND, TILES, Serving, frames, parts_of, until
 

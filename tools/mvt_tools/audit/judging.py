@@ -11,10 +11,8 @@ from pathlib import Path
 from typing import Any, Dict, Iterable, List, NamedTuple, Optional, Sequence, Tuple
 
 import libmvt
-from libmvt import CAUSES, Finding
-from libmvt._mvt import looked_at
-from libmvt._numbers import NOTES
-from libmvt._remarks import finding_of, note_of
+from libmvt import CAUSES, NOTES, Finding
+from libmvt.raw import finding_of, looked_at, note_of
 
 from .. import bounds
 from ..stores import MOST_ZOOM, Address, Content, Store

@@ -8,10 +8,8 @@ from contextlib import AbstractContextManager, ExitStack, closing
 from typing import Any, Callable, Dict, Iterable, Iterator, List, Optional, Tuple, Union
 
 import libmvt
-from libmvt import CAUSES
-from libmvt._mending import ROW
-from libmvt._mvt import mend_rows
-from libmvt._numbers import CHANGES
+from libmvt import CAUSES, CHANGES
+from libmvt.raw import CHANGE_ROW, mend_rows
 
 from ..stores import Address, State, Store, StoreError
 from ..stores.pmtiles import PMTiles
@@ -43,7 +41,7 @@ def mended(content: bytes) -> Optional[Mended]:
         return None
     if tile is not content:
         made = gzip.compress(made, mtime=0) if content.startswith(GZIP) else zlib.compress(made)
-    return made, Counter(CHANGES[row[0]] for row in ROW.iter_unpack(rows))
+    return made, Counter(CHANGES[row[0]] for row in CHANGE_ROW.iter_unpack(rows))
 
 
 def mended_part(_: Store, content: bytes) -> bytes:

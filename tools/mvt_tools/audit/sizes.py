@@ -6,7 +6,7 @@ A run of equal tiles counts once. Bytes are those of unpacked tiles in the short
 import sqlite3
 from typing import Any, Dict, List, NamedTuple, Optional, Tuple
 
-from libmvt._mvt import measured
+from libmvt.raw import measured
 
 from .. import bounds
 from ..stores import Address

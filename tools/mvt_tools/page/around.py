@@ -3,7 +3,7 @@
 from typing import Any, Dict, List, Optional, Sequence, Tuple
 
 import libmvt
-from libmvt._around import Around, Integer, Role, Step
+from libmvt import Around, Integer, Role, Step
 
 from ..bounds import POINTS
 

@@ -18,8 +18,8 @@ from functools import partial
 from typing import Any, Callable, Dict, List, Optional, Sequence
 
 import libmvt
-from libmvt._mvt import json_lent, lint_rows, lookalike, measured, survey_rows, svg_lent
-from libmvt.geojson.making import Place, objects_of, parts_of
+from libmvt.geojson import Place, objects_of, parts_of
+from libmvt.raw import json_lent, lint_rows, lookalike, measured, survey_rows, svg_lent
 
 from .. import bounds
 from ..stores import place_of
@@ -61,7 +61,7 @@ def _read(tile: libmvt.Buffer) -> Answer:
     """The counts of rows, and the bytes of each list."""
     rows = libmvt.rows(tile, bounds.ROWS_OF_PAGE)
     pieces: Answer = [struct.pack("<9Q", *(len(getattr(rows, name)) for name in _LISTS))]
-    for content in map(memoryview, rows._lent()):
+    for content in map(memoryview, rows.buffers()):
         pieces += [content, bytes(-len(content) % 8)]
     return pieces
 

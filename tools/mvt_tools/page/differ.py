@@ -4,7 +4,7 @@ Which fields and integers there are the library says, as round a fault."""
 from typing import Any, Callable, Dict, List, Optional, Sequence, TypeVar
 
 import libmvt
-from libmvt._around import Bounds, Field, Integer
+from libmvt import Bounds, Field, Integer
 
 _Row = TypeVar("_Row")
 

@@ -3,8 +3,7 @@
 import os
 from typing import Any, Dict, List, NamedTuple, Optional, Sequence
 
-from libmvt._mvt import finding_text, note_text
-from libmvt._numbers import FINDINGS, NOTES
+from libmvt import FINDINGS, NOTES, finding_text, note_text
 
 from .._shown import shown
 from ..stores import Key, Options, Store, StoreError, files, found, place_of

@@ -5,9 +5,8 @@ from contextlib import suppress
 from typing import Any, Dict, Iterator, List, Sequence, Tuple
 
 import libmvt
-from libmvt._mending import ROW, change_of
-from libmvt._mvt import mend_rows
-from libmvt._numbers import CHANGES
+from libmvt import CHANGES
+from libmvt.raw import CHANGE_ROW, change_of, mend_rows
 
 from .. import bounds
 from .around import whole_shape
@@ -20,8 +19,8 @@ def told(tile: bytes) -> Tuple[bytes, Dict[str, Any]]:
     """The mended tile, and the changes: how many there are of each kind, the lines of the first, and the first features.
     Raises Refused and TooLarge."""
     made, rows = mend_rows(tile)
-    first = list(map(change_of, ROW.iter_unpack(rows[: _TOLD * ROW.size])))
-    counts = Counter(CHANGES[kind] for kind, *_ in ROW.iter_unpack(rows))
+    first = list(map(change_of, CHANGE_ROW.iter_unpack(rows[: _TOLD * CHANGE_ROW.size])))
+    counts = Counter(CHANGES[kind] for kind, *_ in CHANGE_ROW.iter_unpack(rows))
     features: List[Dict[str, Any]] = []
     with suppress(MemoryError):
         features.extend(_features(tile, made, first) if len(tile) <= bounds.AROUND else ())

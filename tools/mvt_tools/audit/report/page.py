@@ -6,7 +6,7 @@ from pathlib import Path
 from typing import Any, Dict, Iterable, List, Optional, Tuple
 from urllib.parse import quote
 
-from libmvt._mvt import cause_text
+from libmvt import cause_text
 
 from ... import bounds
 from ...stores import Store

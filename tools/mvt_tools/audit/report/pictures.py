@@ -6,7 +6,7 @@ from typing import List, NamedTuple, Optional, Tuple
 
 import libmvt
 
-from libmvt._around import Around, Path
+from libmvt import Around, Path
 
 from ... import bounds
 from .shapes import Point, position

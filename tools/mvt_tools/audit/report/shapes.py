@@ -2,7 +2,7 @@
 
 from typing import List, Optional, Tuple
 
-from libmvt._around import Path
+from libmvt import Path
 
 Point = Tuple[int, int]
 
