@@ -69,12 +69,18 @@ mvt_status mvt_read_layer(const uint8_t *bytes, size_t len, mvt_bytes name, mvt_
 /* The proved calls write what they tell to something that is there. */
 uint32_t mvt_extract_named(const uint8_t *bytes, size_t len, const mvt_bytes *names, size_t count, mvt_bytes *out,
                            mvt_fault *fault, size_t *missing);
+uint32_t mvt_mend_told(const uint8_t *bytes, size_t len, mvt_mended *out, mvt_fault *fault, mvt_unmended_row *why);
 uint32_t mvt_write_told(const mvt_tile *tile, mvt_bytes *out, mvt_rows_fault *fault);
 
 mvt_status mvt_extract(const uint8_t *bytes, size_t len, const mvt_bytes *names, size_t count, mvt_bytes *out,
                        mvt_fault *fault, size_t *missing) {
     size_t untold = 0;
     return mvt_extract_named(bytes, len, names, count, out, fault, missing == NULL ? &untold : missing);
+}
+
+mvt_status mvt_mend(const uint8_t *bytes, size_t len, mvt_mended *out, mvt_fault *fault, mvt_unmended_row *why) {
+    mvt_unmended_row untold = {0};
+    return mvt_mend_told(bytes, len, out, fault, why == NULL ? &untold : why);
 }
 
 mvt_status mvt_write(const mvt_tile *tile, mvt_bytes *out, mvt_rows_fault *fault) {

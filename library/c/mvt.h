@@ -191,13 +191,29 @@ typedef struct {
     const mvt_change_row *changes; size_t change_count;
 } mvt_mended;
 
+/* Why mvt_mend refuses a tile. */
+typedef enum {
+    MVT_UNMENDED_RINGS_CROSS = 1,    /* two rings cross by more than rounding explains, so neither holds the other */
+    MVT_UNMENDED_TOO_MANY_STEPS = 2, /* telling its rings would take more than 1,073,741,824 steps */
+    MVT_UNMENDED_ANOTHER_RULE = 3    /* another rule is broken, or no line of what is left could be written */
+} mvt_unmended;
+
+/* The same with the two rings. What the kind doesn't speak of is 0. */
+typedef struct {
+    uint32_t kind;          /* an mvt_unmended */
+    uint64_t layer;         /* over layers of every version, as in an mvt_fault */
+    uint64_t feature;
+    uint64_t ring, other;   /* through all polygons of the feature; the larger of the two first */
+} mvt_unmended_row;
+
 /* The canonical bytes of a tile in which the two rules are mended that producers break most: MVT_CAUSE_ZERO_SEGMENT and
  * MVT_CAUSE_FIRST_RING. With them comes what was changed: of each feature its lines or rings in order, or that it is left out.
  * Where a polygon's first ring has negative area, its rings are told by even-odd: what an odd number of the others hold is a
  * hole, but for a unit. Filled by even-odd the tile looks the same before and after.
  * A tile that keeps every rule is rewritten, and has no changes; one that breaks another rule too, or whose rings cross, is
- * refused with the fault that mvt_judge tells. Free the result with mvt_mended_free. MVT_OK, MVT_REFUSED, MVT_NO_MEMORY, MVT_TOO_LARGE. */
-mvt_status mvt_mend(const uint8_t *bytes, size_t len, mvt_mended *out, mvt_fault *fault);
+ * refused with the fault that mvt_judge tells. With MVT_REFUSED it writes `why`, unless that is NULL. Free the result with
+ * mvt_mended_free. MVT_OK, MVT_REFUSED, MVT_NO_MEMORY, MVT_TOO_LARGE. */
+mvt_status mvt_mend(const uint8_t *bytes, size_t len, mvt_mended *out, mvt_fault *fault, mvt_unmended_row *why);
 
 /* The canonical bytes of the named layers of version 2, in the order of the tile. A repeated name counts once; without
  * names the result has no layers. The names are checked before the bytes, so MVT_BAD_NAME comes first.

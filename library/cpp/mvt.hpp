@@ -728,7 +728,7 @@ private:
 [[nodiscard]] inline mended mend(input of) {
     mvt_mended out{};
     mvt_fault fault{};
-    require_ok(mvt_mend(of.data(), of.size(), &out, &fault), fault, of);
+    require_ok(mvt_mend(of.data(), of.size(), &out, &fault, nullptr), fault, of);
     return mended::adopt(out);
 }
 

@@ -45,7 +45,7 @@ func (c Change) String() string {
 func Mend(tile []byte) ([]byte, []Change, error) {
 	var out C.mvt_mended
 	var fault C.mvt_fault
-	if err := errorOf(C.mvt_mend(start(tile), C.size_t(len(tile)), &out, &fault), tile, &fault); err != nil {
+	if err := errorOf(C.mvt_mend(start(tile), C.size_t(len(tile)), &out, &fault, nil), tile, &fault); err != nil {
 		return nil, nil, err
 	}
 	defer C.mvt_mended_free(&out)

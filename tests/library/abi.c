@@ -56,6 +56,9 @@ static_assert(MVT_CHANGE_REPEATED_POINT == 2, "MVT_CHANGE_REPEATED_POINT");
 static_assert(MVT_CHANGE_PART_LEFT_OUT == 3, "MVT_CHANGE_PART_LEFT_OUT");
 static_assert(MVT_CHANGE_FEATURE_LEFT_OUT == 4, "MVT_CHANGE_FEATURE_LEFT_OUT");
 static_assert(MVT_CHANGE_MOVED_RING == 5, "MVT_CHANGE_MOVED_RING");
+static_assert(MVT_UNMENDED_RINGS_CROSS == 1, "MVT_UNMENDED_RINGS_CROSS");
+static_assert(MVT_UNMENDED_TOO_MANY_STEPS == 2, "MVT_UNMENDED_TOO_MANY_STEPS");
+static_assert(MVT_UNMENDED_ANOTHER_RULE == 3, "MVT_UNMENDED_ANOTHER_RULE");
 static_assert(MVT_NOTE_NO_LAYERS == 1, "MVT_NOTE_NO_LAYERS");
 static_assert(MVT_NOTE_FOREIGN == 2, "MVT_NOTE_FOREIGN");
 static_assert(MVT_NOTE_NO_FEATURES == 3, "MVT_NOTE_NO_FEATURES");
@@ -195,6 +198,13 @@ static_assert(offsetof(mvt_mended, bytes) == 0, "mvt_mended: bytes");
 static_assert(offsetof(mvt_mended, changes) == 16, "mvt_mended: changes");
 static_assert(offsetof(mvt_mended, change_count) == 24, "mvt_mended: change_count");
 
+static_assert(sizeof(mvt_unmended_row) == 40, "mvt_unmended_row");
+static_assert(offsetof(mvt_unmended_row, kind) == 0, "mvt_unmended_row: kind");
+static_assert(offsetof(mvt_unmended_row, layer) == 8, "mvt_unmended_row: layer");
+static_assert(offsetof(mvt_unmended_row, feature) == 16, "mvt_unmended_row: feature");
+static_assert(offsetof(mvt_unmended_row, ring) == 24, "mvt_unmended_row: ring");
+static_assert(offsetof(mvt_unmended_row, other) == 32, "mvt_unmended_row: other");
+
 static_assert(sizeof(mvt_note_row) == 40, "mvt_note_row");
 static_assert(offsetof(mvt_note_row, kind) == 0, "mvt_note_row: kind");
 static_assert(offsetof(mvt_note_row, version) == 4, "mvt_note_row: version");
@@ -297,7 +307,7 @@ static_assert(offsetof(mvt_surroundings, fields) == 224, "mvt_surroundings: fiel
 static_assert(offsetof(mvt_surroundings, field_count) == 232, "mvt_surroundings: field_count");
 
 mvt_status (*const call_mvt_rewrite)(const uint8_t *, size_t, mvt_bytes *, mvt_fault *) = mvt_rewrite;
-mvt_status (*const call_mvt_mend)(const uint8_t *, size_t, mvt_mended *, mvt_fault *) = mvt_mend;
+mvt_status (*const call_mvt_mend)(const uint8_t *, size_t, mvt_mended *, mvt_fault *, mvt_unmended_row *) = mvt_mend;
 mvt_status (*const call_mvt_extract)(const uint8_t *, size_t, const mvt_bytes *, size_t, mvt_bytes *, mvt_fault *, size_t *) = mvt_extract;
 mvt_status (*const call_mvt_json)(const uint8_t *, size_t, mvt_bytes *, mvt_fault *) = mvt_json;
 mvt_status (*const call_mvt_svg)(const uint8_t *, size_t, mvt_bytes *, mvt_fault *) = mvt_svg;

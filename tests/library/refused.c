@@ -34,7 +34,7 @@ typedef struct {
 } task;
 
 static uint32_t rewrite(const uint8_t *b, size_t n, output *o, mvt_fault *f) { return mvt_rewrite(b, n, &o->bytes, f); }
-static uint32_t mend(const uint8_t *b, size_t n, output *o, mvt_fault *f) { return mvt_mend(b, n, &o->mended, f); }
+static uint32_t mend(const uint8_t *b, size_t n, output *o, mvt_fault *f) { return mvt_mend(b, n, &o->mended, f, NULL); }
 static uint32_t json(const uint8_t *b, size_t n, output *o, mvt_fault *f) { return mvt_json(b, n, &o->bytes, f); }
 static uint32_t svg(const uint8_t *b, size_t n, output *o, mvt_fault *f) { return mvt_svg(b, n, &o->bytes, f); }
 static uint32_t lint(const uint8_t *b, size_t n, output *o, mvt_fault *f) { return mvt_lint(b, n, &o->bytes, f); }

@@ -3,11 +3,15 @@ use Rattle.std.specs.Prelude.{◌≡◌, ℕ, ◌==◌, List, map, Some, IsSome,
 use Rattle.mvt_base.specs.declared.TheConstants.{LIMIT}
 use Rattle.mvt_mend.specs.declared.change.Change.{Change}
 use Rattle.mvt_mend.specs.declared.change.Change.TheVariants.{TurnedRing, RepeatedPoint, PartLeftOut, FeatureLeftOut, MovedRing}
-use Rattle.mvt_mend.specs.Tiles.{changes_in, mended}
+use Rattle.mvt_mend.specs.declared.change.Unmended.{Unmended}
+use Rattle.mvt_mend.specs.declared.change.Unmended.TheVariants.{RingsCross, TooManySteps, AnotherRule}
+use Rattle.mvt_mend.specs.Tiles.{cause_in, changes_in, mended}
 use Rattle.mvt_rows.specs.Reading.{IsRewritten, IsTooLarge}
 use Rattle.mvt_tile.specs.TileRules.{fault_within}
 use Rattle.mvt_c.specs.declared.mending.ChangeRow.{ChangeRow}
 use Rattle.mvt_c.specs.declared.mending.Mended.{Mended}
+use Rattle.mvt_c.specs.declared.mending.UnmendedRow.{UnmendedRow}
+use Rattle.mvt_rings.specs.declared.holding.Crossing.{Crossing}
 use Rattle.mvt_c.specs.declared.refusal.Refusal.{Refusal}
 use Rattle.mvt_c.specs.declared.refusal.Refusal.TheVariants.{Refused, Memory, TooLarge, NoLayer, BadName}
 
@@ -42,6 +46,39 @@ change_of_row row =
 pub record IsMendedTo (input : List ℕ) (made : Mended) : Type 0 where
   pub bytes : IsRewritten (mended input) made.bytes.now
   pub changes : made.changes.now ≡ map row_of_change (changes_in input)
+
+-- a cause of this kind that speaks of no ring
+abbrev pub unplaced : ℕ → UnmendedRow
+unplaced kind = record {
+  kind = kind;
+  layer = 0;
+  feature = 0;
+  ring = 0;
+  other = 0;
+}
+
+abbrev pub row_of_unmended : Unmended → UnmendedRow
+row_of_unmended (RingsCross layer feature crossing) = record {
+  kind = 1;
+  layer = layer;
+  feature = feature;
+  ring = crossing.outer;
+  other = crossing.inner;
+}
+row_of_unmended TooManySteps = unplaced 2
+row_of_unmended AnotherRule = unplaced 3
+
+-- the cause that a row tells
+abbrev pub unmended_of_row : UnmendedRow → Unmended
+unmended_of_row row =
+    if row.kind == 1 then RingsCross row.layer row.feature (record { outer = row.ring; inner = row.other })
+    else if row.kind == 2 then TooManySteps
+    else AnotherRule
+
+-- what is told of the cause: of a tile that is refused its own, else nothing
+abbrev pub why_after : Refusal → List ℕ → UnmendedRow → UnmendedRow
+why_after (Refused fault) input old = row_of_unmended (cause_in input)
+why_after refusal input old = old
 
 -- why nothing is made: the fault of the bytes as they stand, where they break a rule mended too
 abbrev pub NotMended : List ℕ → Refusal → Type 0

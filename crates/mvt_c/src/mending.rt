@@ -1,16 +1,17 @@
 //! A tile mended, and what is changed of it, as rows.
-ghost use Rattle.std.specs.Prelude.{◌≡◌, ◌≢◌, ◌≤◌, map, IfOk, IfErr, IsSome};
+ghost use Rattle.std.specs.Prelude.{◌≡◌, ◌≢◌, ◌≤◌, map, IfOk, IfErr, IsSome, OnOk};
 ghost use Rattle.mvt_c.specs.Calls.{IsReported};
-ghost use Rattle.mvt_c.specs.Mending.{IsMendedTo, NotMended, change_at, change_of_row, row_of_change};
+ghost use Rattle.mvt_c.specs.Mending.{IsMendedTo, NotMended, change_at, change_of_row, row_of_change, row_of_unmended, unmended_of_row, unplaced, why_after};
 ghost use Rattle.mvt_mend.specs.declared.change.Change.{Change as AChange};
-ghost use Rattle.mvt_mend.specs.Tiles.{mended as the_mended};
+ghost use Rattle.mvt_mend.specs.declared.change.Unmended.{Unmended as AnUnmended};
+ghost use Rattle.mvt_mend.specs.Tiles.{cause_in, mended as the_mended};
 ghost use Rattle.mvt_rows.specs.Reading.{IsTooLarge};
 ghost use Rattle.mvt_tile.specs.TileRules.{fault_within};
 
 use crate::fault::Fault;
 use crate::refusal::{Refusal, report};
 use mvt_base::LIMIT;
-use mvt_mend::{Change, MendedTile, mend_tile};
+use mvt_mend::{Change, MendError, MendedTile, Unmended, mend_tile};
 use std::alloc::{AllocError, Global};
 
 /// A change. What its kind doesn't speak of is 0.
@@ -25,6 +26,17 @@ pub struct ChangeRow {
     pub to: u64,
 }
 
+/// Why a tile isn't mended. What its kind doesn't speak of is 0.
+#[repr(C)]
+#[derive(Clone, Copy, Debug)]
+pub struct UnmendedRow {
+    pub kind: u32,
+    pub layer: u64,
+    pub feature: u64,
+    pub ring: u64,
+    pub other: u64,
+}
+
 /// The canonical bytes of a tile that is mended, and what is changed, which last until C frees
 /// them.
 #[repr(C)]
@@ -36,7 +48,13 @@ pub struct Mended {
 
 /// A tile mended (`mvt_mend`).
 #[unsafe(no_mangle)]
-pub extern "C" fn mvt_mend(alloc: Global, bytes: &[u8], out: &mut Mended, fault: &mut Fault) -> u32
+pub extern "C" fn mvt_mend_told(
+    alloc: Global,
+    bytes: &[u8],
+    out: &mut Mended,
+    fault: &mut Fault,
+    why: &mut UnmendedRow,
+) -> u32
     ensures done { result ≡ 0 → IsMendedTo bytes.now out.new }
     ensures refused { result ≡ 1 → IsReported bytes.now fault.new }
     ensures broken { result ≡ 1 → IsSome (fault_within LIMIT (the_mended bytes.now)) }
@@ -44,11 +62,14 @@ pub extern "C" fn mvt_mend(alloc: Global, bytes: &[u8], out: &mut Mended, fault:
     ensures few { result ≤ 3 }
     ensures out_kept { result ≢ 0 → out.new ≡ out.old }
     ensures fault_kept { result ≢ 1 → fault.new ≡ fault.old }
+    ensures why { result ≡ 1 → why.new ≡ row_of_unmended (cause_in bytes.now) }
+    ensures why_kept { result ≢ 1 → why.new ≡ why.old }
 
-    // A row tells its change, so the rows say what the lines of `mvt mend` say.
-    ensures told { (change : AChange) → change_of_row (row_of_change change) ≡ change }
+    // A row tells its change, or its cause, so the rows say what the lines of `mvt mend` say.
+    ensures told { ((change : AChange) → change_of_row (row_of_change change) ≡ change)
+        × ((cause : AnUnmended) → unmended_of_row (row_of_unmended cause) ≡ cause) }
 {
-    match made_of(alloc, bytes) {
+    match made_of(alloc, bytes, why) {
         Ok(made) => {
             *out = made;
             0
@@ -57,14 +78,23 @@ pub extern "C" fn mvt_mend(alloc: Global, bytes: &[u8], out: &mut Mended, fault:
     }
 }
 
-fn made_of(alloc: Global, bytes: &[u8]) -> Result<Mended, Refusal>
+fn made_of(alloc: Global, bytes: &[u8], why: &mut UnmendedRow) -> Result<Mended, Refusal>
     ensures done { IfOk result (IsMendedTo bytes.now) }
     ensures refused { IfErr result (NotMended bytes.now) }
+    ensures why { IfErr result (λ refusal. why.new ≡ why_after refusal bytes.now why.old) }
+    ensures why_kept { OnOk result (why.new ≡ why.old) }
 {
     let MendedTile {
         bytes: canonical,
         changes,
-    } = mend_tile(alloc, bytes)?;
+    } = match mend_tile(alloc, bytes) {
+        Ok(made) => made,
+        Err(MendError::Refused(fault, cause)) => {
+            *why = unmended_row(cause);
+            return Err(Refusal::Refused(fault));
+        }
+        Err(MendError::Memory) => return Err(Refusal::Memory),
+    };
     let Some(canonical) = canonical else {
         return Err(Refusal::TooLarge);
     };
@@ -103,6 +133,35 @@ fn change_row(change: Change) -> ChangeRow
             to: to as u64,
             ..change_at(5, layer, feature, ring)
         },
+    }
+}
+
+fn unmended_row(cause: Unmended) -> UnmendedRow
+    ensures { result ≡ row_of_unmended cause }
+{
+    match cause {
+        Unmended::RingsCross(layer, feature, crossing) => UnmendedRow {
+            kind: 1,
+            layer: layer as u64,
+            feature: feature as u64,
+            ring: crossing.outer as u64,
+            other: crossing.inner as u64,
+        },
+        Unmended::TooManySteps => unplaced(2),
+        Unmended::AnotherRule => unplaced(3),
+    }
+}
+
+/// A cause of this kind that speaks of no ring.
+fn unplaced(kind: u32) -> UnmendedRow
+    ensures { result ≡ unplaced kind }
+{
+    UnmendedRow {
+        kind,
+        layer: 0,
+        feature: 0,
+        ring: 0,
+        other: 0,
     }
 }
 

@@ -4,7 +4,6 @@ ghost use Rattle.mvt_c.specs.Calls.{status_of, status_of_refusal, ReportsFault};
 
 use crate::fault::Fault;
 use crate::lent::Bytes;
-use mvt_mend::MendError;
 use mvt_tile::{DecodeError, Fault as TileFault};
 use mvt_view::ViewError;
 use std::alloc::{AllocError, AllocFailed};
@@ -47,20 +46,6 @@ impl From<DecodeError> for Refusal {
             DecodeError::Memory => Refusal::Memory,
             DecodeError::Fault(fault) => Refusal::Refused(fault),
             DecodeError::Read(_) => Refusal::Memory,
-        }
-    }
-}
-
-impl From<MendError> for Refusal {
-    ghost use Rattle.std.specs.Prelude.{◌≡◌};
-    ghost use Rattle.mvt_c.specs.Calls.{of_mend};
-
-    ghost from_gives = { λ error refusal. refusal ≡ of_mend error };
-
-    fn from(error: MendError) -> Self {
-        match error {
-            MendError::Memory => Refusal::Memory,
-            MendError::Refused(fault, _) => Refusal::Refused(fault),
         }
     }
 }

@@ -118,7 +118,7 @@ static PyObject *mend_rows(PyObject *module, PyObject *given) {
     const uint8_t *bytes = content_of(tile, &len);
     uint32_t status;
     Py_BEGIN_ALLOW_THREADS
-    status = mvt_mend(bytes, len, &out, &fault);
+    status = mvt_mend(bytes, len, &out, &fault, NULL);
     Py_END_ALLOW_THREADS
     if (raise_for(state_of_module(module), status, &fault, bytes, len, 1) == 0)
         told = Py_BuildValue("(NN)", rows_told(out.bytes.data, out.bytes.len, 1),

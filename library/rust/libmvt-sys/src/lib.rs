@@ -65,6 +65,10 @@ pub const CHANGE_PART_LEFT_OUT: u32 = 3;
 pub const CHANGE_FEATURE_LEFT_OUT: u32 = 4;
 pub const CHANGE_MOVED_RING: u32 = 5;
 
+pub const UNMENDED_RINGS_CROSS: u32 = 1;
+pub const UNMENDED_TOO_MANY_STEPS: u32 = 2;
+pub const UNMENDED_ANOTHER_RULE: u32 = 3;
+
 pub const NOTE_NO_LAYERS: u32 = 1;
 pub const NOTE_FOREIGN: u32 = 2;
 pub const NOTE_NO_FEATURES: u32 = 3;
@@ -252,6 +256,16 @@ pub struct Mended {
 
 #[repr(C)]
 #[derive(Clone, Copy, Debug, PartialEq, Eq)]
+pub struct UnmendedRow {
+    pub kind: u32,
+    pub layer: u64,
+    pub feature: u64,
+    pub ring: u64,
+    pub other: u64,
+}
+
+#[repr(C)]
+#[derive(Clone, Copy, Debug, PartialEq, Eq)]
 pub struct NoteRow {
     pub kind: u32,
     pub version: u32,
@@ -395,7 +409,13 @@ pub struct Surroundings {
 
 extern "C" {
     pub fn mvt_rewrite(bytes: *const u8, len: usize, out: *mut Bytes, fault: *mut Fault) -> u32;
-    pub fn mvt_mend(bytes: *const u8, len: usize, out: *mut Mended, fault: *mut Fault) -> u32;
+    pub fn mvt_mend(
+        bytes: *const u8,
+        len: usize,
+        out: *mut Mended,
+        fault: *mut Fault,
+        why: *mut UnmendedRow,
+    ) -> u32;
     pub fn mvt_extract(
         bytes: *const u8,
         len: usize,

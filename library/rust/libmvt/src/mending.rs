@@ -76,7 +76,7 @@ pub fn mend(bytes: &[u8]) -> Result<Mended, Error> {
         changes: std::ptr::null(),
         change_count: 0,
     };
-    let mut out = filled(bytes, empty, sys::mvt_mend)?;
+    let mut out = filled(bytes, empty, mend_untold)?;
     // SAFETY: the call filled the list, which is given back behind this.
     let rows = unsafe { list(out.changes, out.change_count) };
     let changes = rows.iter().filter_map(change_of).collect();
@@ -85,6 +85,21 @@ pub fn mend(bytes: &[u8]) -> Result<Mended, Error> {
     // SAFETY: nothing looks at the list any more.
     unsafe { sys::mvt_mended_free(&mut out) };
     Ok(Mended { bytes, changes })
+}
+
+/// `mvt_mend`, which isn't asked why it refuses a tile.
+///
+/// # Safety
+///
+/// As for `mvt_mend`.
+unsafe extern "C" fn mend_untold(
+    bytes: *const u8,
+    len: usize,
+    out: *mut sys::Mended,
+    fault: *mut sys::Fault,
+) -> u32 {
+    // SAFETY: the pointers are handed on as they came; `why` may be null.
+    unsafe { sys::mvt_mend(bytes, len, out, fault, std::ptr::null_mut()) }
 }
 
 /// `None` for a kind of a later library.
