@@ -216,24 +216,45 @@ def _c_type(kind, pointer):
     return kind if pointer is None else f"{'const ' if pointer == 'const' else ''}{kind} *"
 
 
-def _c_call(name, parameters, answer):
-    """A pointer to a call of just this type."""
-    given = ", ".join(_c_type(*parameter[1:]) for parameter in parameters) or "void"
-    told = _c_type(*answer[1:])
-    return f"{told}{'' if told.endswith('*') else ' '}(*const call_{name})({given}) = {name};"
+def told(header):
+    """What the header says of the ABI, in the lines of library/c/abi-*.txt."""
+    for names in header.enums.values():
+        yield from (f"number {name} {number}" for name, number in names)
+    for kind, fields in header.structures.items():
+        size, _, places = _placed(header, kind)
+        yield f"structure {kind} {size}"
+        yield from (f"field {kind} {places[name]} {name} {_c_type(of, pointer)}" for name, of, pointer in fields)
+    for name, (parameters, answer) in header.calls.items():
+        given = ", ".join(_c_type(*parameter[1:]) for parameter in parameters) or "void"
+        yield f"call {name} {_c_type(*answer[1:])} ({given})"
+
+
+def listed(header):
+    """The lines of library/c/abi-*.txt, which are written by hand, of the versions that can stand for each other."""
+    text = (HERE / f"c/abi-{_series(header)}.txt").read_text()
+    return [line for line in text.splitlines() if line and not line.startswith("#")]
+
+
+def _in_c(line):
+    """A line of that list, as the compiler holds it against mvt.h."""
+    kind, name, rest = line.split(" ", 2)
+    if kind == "number":
+        return f'static_assert({name} == {rest}, "{name}");'
+    if kind == "structure":
+        return f'\nstatic_assert(sizeof({name}) == {rest}, "{name}");'
+    if kind == "field":
+        place, field, of = rest.split(" ", 2)
+        of_that = f"_Generic((({name} *)0)->{field}, {of}: 1, default: 0)"
+        return f'static_assert(offsetof({name}, {field}) == {place} && {of_that}, "{name}: {field}");'
+    answer, given = re.fullmatch(r"(.*?) (\(.*\))", rest).groups()
+    return f"{answer}{'' if answer.endswith('*') else ' '}(*const call_{name}){given} = {name};"
 
 
 def abi(header):
-    lines = [f"/* What callers of libmvt {_series(header)} were compiled with, made of mvt.h by library/layout.py: numbers, sizes, the"]
-    lines += [" * places of fields, and the types of calls. A line that goes or changes wants another soname. */"]
+    series = _series(header)
+    lines = [f"/* What callers of libmvt {series} were compiled with: library/c/abi-{series}.txt, as library/layout.py says it in C. */"]
     lines += ["#include <mvt.h>", "", "#include <assert.h>", ""]
-    for names in header.enums.values():
-        lines += [f'static_assert({name} == {number}, "{name}");' for name, number in names]
-    for kind in header.structures:
-        size, _, places = _placed(header, kind)
-        lines += ["", f'static_assert(sizeof({kind}) == {size}, "{kind}");']
-        lines += [f'static_assert(offsetof({kind}, {name}) == {place}, "{kind}: {name}");' for name, place in places.items()]
-    lines += ["", *(_c_call(name, *call) for name, call in header.calls.items()), "", "int main(void) { return 0; }", ""]
+    lines += [*map(_in_c, listed(header)), "", "int main(void) { return 0; }", ""]
     return "\n".join(lines)
 
 
@@ -261,4 +282,5 @@ def main():
     sys.exit(differ)
 
 
-main()
+if __name__ == "__main__":
+    main()

@@ -8,7 +8,7 @@
  * a length of 0, don't follow the pointer. The calls that free memory also take NULL; no other call does. The library
  * needs a processor with x86-64-v2.
  *
- * Until 1.0 versions with one minor number stand for each other, and have one shared library: libmvt.so.0.3. Within them
+ * Until 1.0 versions with one minor number stand for each other, and have one shared library: libmvt.so.0.4. Within them
  * calls, and numbers of enums, may be added; structures and what is there stay, so a caller allocates what this header says.
  */
 #ifndef MVT_H
@@ -17,9 +17,9 @@
 #include <stddef.h>
 #include <stdint.h>
 
-#define MVT_VERSION "0.3.0"
+#define MVT_VERSION "0.4.0"
 #define MVT_VERSION_MAJOR 0
-#define MVT_VERSION_MINOR 3
+#define MVT_VERSION_MINOR 4
 #define MVT_VERSION_PATCH 0
 
 /* A tile has at most so many bytes, and so has what a call makes of one, but for texts. */

@@ -1,5 +1,4 @@
-/* What callers of libmvt 0.3 were compiled with, made of mvt.h by library/layout.py: numbers, sizes, the
- * places of fields, and the types of calls. A line that goes or changes wants another soname. */
+/* What callers of libmvt 0.4 were compiled with: library/c/abi-0.4.txt, as library/layout.py says it in C. */
 #include <mvt.h>
 
 #include <assert.h>
@@ -121,191 +120,190 @@ static_assert(MVT_ROLE_LINE_Y == 6, "MVT_ROLE_LINE_Y");
 static_assert(MVT_ROLE_CLOSE_PATH == 7, "MVT_ROLE_CLOSE_PATH");
 
 static_assert(sizeof(mvt_bytes) == 16, "mvt_bytes");
-static_assert(offsetof(mvt_bytes, data) == 0, "mvt_bytes: data");
-static_assert(offsetof(mvt_bytes, len) == 8, "mvt_bytes: len");
+static_assert(offsetof(mvt_bytes, data) == 0 && _Generic(((mvt_bytes *)0)->data, const uint8_t *: 1, default: 0), "mvt_bytes: data");
+static_assert(offsetof(mvt_bytes, len) == 8 && _Generic(((mvt_bytes *)0)->len, size_t: 1, default: 0), "mvt_bytes: len");
 
 static_assert(sizeof(mvt_fault) == 48, "mvt_fault");
-static_assert(offsetof(mvt_fault, layer) == 0, "mvt_fault: layer");
-static_assert(offsetof(mvt_fault, feature) == 8, "mvt_fault: feature");
-static_assert(offsetof(mvt_fault, at) == 16, "mvt_fault: at");
-static_assert(offsetof(mvt_fault, cause) == 24, "mvt_fault: cause");
-static_assert(offsetof(mvt_fault, name) == 32, "mvt_fault: name");
+static_assert(offsetof(mvt_fault, layer) == 0 && _Generic(((mvt_fault *)0)->layer, int64_t: 1, default: 0), "mvt_fault: layer");
+static_assert(offsetof(mvt_fault, feature) == 8 && _Generic(((mvt_fault *)0)->feature, int64_t: 1, default: 0), "mvt_fault: feature");
+static_assert(offsetof(mvt_fault, at) == 16 && _Generic(((mvt_fault *)0)->at, uint64_t: 1, default: 0), "mvt_fault: at");
+static_assert(offsetof(mvt_fault, cause) == 24 && _Generic(((mvt_fault *)0)->cause, uint32_t: 1, default: 0), "mvt_fault: cause");
+static_assert(offsetof(mvt_fault, name) == 32 && _Generic(((mvt_fault *)0)->name, mvt_bytes: 1, default: 0), "mvt_fault: name");
 
 static_assert(sizeof(mvt_span) == 16, "mvt_span");
-static_assert(offsetof(mvt_span, start) == 0, "mvt_span: start");
-static_assert(offsetof(mvt_span, len) == 8, "mvt_span: len");
+static_assert(offsetof(mvt_span, start) == 0 && _Generic(((mvt_span *)0)->start, uint64_t: 1, default: 0), "mvt_span: start");
+static_assert(offsetof(mvt_span, len) == 8 && _Generic(((mvt_span *)0)->len, uint64_t: 1, default: 0), "mvt_span: len");
 
 static_assert(sizeof(mvt_layer) == 88, "mvt_layer");
-static_assert(offsetof(mvt_layer, version) == 0, "mvt_layer: version");
-static_assert(offsetof(mvt_layer, extent) == 4, "mvt_layer: extent");
-static_assert(offsetof(mvt_layer, name) == 8, "mvt_layer: name");
-static_assert(offsetof(mvt_layer, features) == 24, "mvt_layer: features");
-static_assert(offsetof(mvt_layer, keys) == 40, "mvt_layer: keys");
-static_assert(offsetof(mvt_layer, values) == 56, "mvt_layer: values");
-static_assert(offsetof(mvt_layer, bytes) == 72, "mvt_layer: bytes");
+static_assert(offsetof(mvt_layer, version) == 0 && _Generic(((mvt_layer *)0)->version, uint32_t: 1, default: 0), "mvt_layer: version");
+static_assert(offsetof(mvt_layer, extent) == 4 && _Generic(((mvt_layer *)0)->extent, uint32_t: 1, default: 0), "mvt_layer: extent");
+static_assert(offsetof(mvt_layer, name) == 8 && _Generic(((mvt_layer *)0)->name, mvt_span: 1, default: 0), "mvt_layer: name");
+static_assert(offsetof(mvt_layer, features) == 24 && _Generic(((mvt_layer *)0)->features, mvt_span: 1, default: 0), "mvt_layer: features");
+static_assert(offsetof(mvt_layer, keys) == 40 && _Generic(((mvt_layer *)0)->keys, mvt_span: 1, default: 0), "mvt_layer: keys");
+static_assert(offsetof(mvt_layer, values) == 56 && _Generic(((mvt_layer *)0)->values, mvt_span: 1, default: 0), "mvt_layer: values");
+static_assert(offsetof(mvt_layer, bytes) == 72 && _Generic(((mvt_layer *)0)->bytes, mvt_span: 1, default: 0), "mvt_layer: bytes");
 
 static_assert(sizeof(mvt_feature) == 64, "mvt_feature");
-static_assert(offsetof(mvt_feature, id) == 0, "mvt_feature: id");
-static_assert(offsetof(mvt_feature, has_id) == 8, "mvt_feature: has_id");
-static_assert(offsetof(mvt_feature, kind) == 12, "mvt_feature: kind");
-static_assert(offsetof(mvt_feature, tags) == 16, "mvt_feature: tags");
-static_assert(offsetof(mvt_feature, parts) == 32, "mvt_feature: parts");
-static_assert(offsetof(mvt_feature, integers) == 48, "mvt_feature: integers");
+static_assert(offsetof(mvt_feature, id) == 0 && _Generic(((mvt_feature *)0)->id, uint64_t: 1, default: 0), "mvt_feature: id");
+static_assert(offsetof(mvt_feature, has_id) == 8 && _Generic(((mvt_feature *)0)->has_id, uint32_t: 1, default: 0), "mvt_feature: has_id");
+static_assert(offsetof(mvt_feature, kind) == 12 && _Generic(((mvt_feature *)0)->kind, uint32_t: 1, default: 0), "mvt_feature: kind");
+static_assert(offsetof(mvt_feature, tags) == 16 && _Generic(((mvt_feature *)0)->tags, mvt_span: 1, default: 0), "mvt_feature: tags");
+static_assert(offsetof(mvt_feature, parts) == 32 && _Generic(((mvt_feature *)0)->parts, mvt_span: 1, default: 0), "mvt_feature: parts");
+static_assert(offsetof(mvt_feature, integers) == 48 && _Generic(((mvt_feature *)0)->integers, mvt_span: 1, default: 0), "mvt_feature: integers");
 
 static_assert(sizeof(mvt_value) == 32, "mvt_value");
-static_assert(offsetof(mvt_value, kind) == 0, "mvt_value: kind");
-static_assert(offsetof(mvt_value, bits) == 8, "mvt_value: bits");
-static_assert(offsetof(mvt_value, text) == 16, "mvt_value: text");
+static_assert(offsetof(mvt_value, kind) == 0 && _Generic(((mvt_value *)0)->kind, uint32_t: 1, default: 0), "mvt_value: kind");
+static_assert(offsetof(mvt_value, bits) == 8 && _Generic(((mvt_value *)0)->bits, uint64_t: 1, default: 0), "mvt_value: bits");
+static_assert(offsetof(mvt_value, text) == 16 && _Generic(((mvt_value *)0)->text, mvt_span: 1, default: 0), "mvt_value: text");
 
 static_assert(sizeof(mvt_part) == 24, "mvt_part");
-static_assert(offsetof(mvt_part, exterior) == 0, "mvt_part: exterior");
-static_assert(offsetof(mvt_part, points) == 8, "mvt_part: points");
+static_assert(offsetof(mvt_part, exterior) == 0 && _Generic(((mvt_part *)0)->exterior, uint32_t: 1, default: 0), "mvt_part: exterior");
+static_assert(offsetof(mvt_part, points) == 8 && _Generic(((mvt_part *)0)->points, mvt_span: 1, default: 0), "mvt_part: points");
 
 static_assert(sizeof(mvt_point) == 8, "mvt_point");
-static_assert(offsetof(mvt_point, x) == 0, "mvt_point: x");
-static_assert(offsetof(mvt_point, y) == 4, "mvt_point: y");
+static_assert(offsetof(mvt_point, x) == 0 && _Generic(((mvt_point *)0)->x, int32_t: 1, default: 0), "mvt_point: x");
+static_assert(offsetof(mvt_point, y) == 4 && _Generic(((mvt_point *)0)->y, int32_t: 1, default: 0), "mvt_point: y");
 
 static_assert(sizeof(mvt_tile) == 144, "mvt_tile");
-static_assert(offsetof(mvt_tile, layers) == 0, "mvt_tile: layers");
-static_assert(offsetof(mvt_tile, layer_count) == 8, "mvt_tile: layer_count");
-static_assert(offsetof(mvt_tile, features) == 16, "mvt_tile: features");
-static_assert(offsetof(mvt_tile, feature_count) == 24, "mvt_tile: feature_count");
-static_assert(offsetof(mvt_tile, keys) == 32, "mvt_tile: keys");
-static_assert(offsetof(mvt_tile, key_count) == 40, "mvt_tile: key_count");
-static_assert(offsetof(mvt_tile, values) == 48, "mvt_tile: values");
-static_assert(offsetof(mvt_tile, value_count) == 56, "mvt_tile: value_count");
-static_assert(offsetof(mvt_tile, tags) == 64, "mvt_tile: tags");
-static_assert(offsetof(mvt_tile, tag_count) == 72, "mvt_tile: tag_count");
-static_assert(offsetof(mvt_tile, parts) == 80, "mvt_tile: parts");
-static_assert(offsetof(mvt_tile, part_count) == 88, "mvt_tile: part_count");
-static_assert(offsetof(mvt_tile, points) == 96, "mvt_tile: points");
-static_assert(offsetof(mvt_tile, point_count) == 104, "mvt_tile: point_count");
-static_assert(offsetof(mvt_tile, integers) == 112, "mvt_tile: integers");
-static_assert(offsetof(mvt_tile, integer_count) == 120, "mvt_tile: integer_count");
-static_assert(offsetof(mvt_tile, texts) == 128, "mvt_tile: texts");
-static_assert(offsetof(mvt_tile, text_len) == 136, "mvt_tile: text_len");
+static_assert(offsetof(mvt_tile, layers) == 0 && _Generic(((mvt_tile *)0)->layers, const mvt_layer *: 1, default: 0), "mvt_tile: layers");
+static_assert(offsetof(mvt_tile, layer_count) == 8 && _Generic(((mvt_tile *)0)->layer_count, size_t: 1, default: 0), "mvt_tile: layer_count");
+static_assert(offsetof(mvt_tile, features) == 16 && _Generic(((mvt_tile *)0)->features, const mvt_feature *: 1, default: 0), "mvt_tile: features");
+static_assert(offsetof(mvt_tile, feature_count) == 24 && _Generic(((mvt_tile *)0)->feature_count, size_t: 1, default: 0), "mvt_tile: feature_count");
+static_assert(offsetof(mvt_tile, keys) == 32 && _Generic(((mvt_tile *)0)->keys, const mvt_span *: 1, default: 0), "mvt_tile: keys");
+static_assert(offsetof(mvt_tile, key_count) == 40 && _Generic(((mvt_tile *)0)->key_count, size_t: 1, default: 0), "mvt_tile: key_count");
+static_assert(offsetof(mvt_tile, values) == 48 && _Generic(((mvt_tile *)0)->values, const mvt_value *: 1, default: 0), "mvt_tile: values");
+static_assert(offsetof(mvt_tile, value_count) == 56 && _Generic(((mvt_tile *)0)->value_count, size_t: 1, default: 0), "mvt_tile: value_count");
+static_assert(offsetof(mvt_tile, tags) == 64 && _Generic(((mvt_tile *)0)->tags, const uint32_t *: 1, default: 0), "mvt_tile: tags");
+static_assert(offsetof(mvt_tile, tag_count) == 72 && _Generic(((mvt_tile *)0)->tag_count, size_t: 1, default: 0), "mvt_tile: tag_count");
+static_assert(offsetof(mvt_tile, parts) == 80 && _Generic(((mvt_tile *)0)->parts, const mvt_part *: 1, default: 0), "mvt_tile: parts");
+static_assert(offsetof(mvt_tile, part_count) == 88 && _Generic(((mvt_tile *)0)->part_count, size_t: 1, default: 0), "mvt_tile: part_count");
+static_assert(offsetof(mvt_tile, points) == 96 && _Generic(((mvt_tile *)0)->points, const mvt_point *: 1, default: 0), "mvt_tile: points");
+static_assert(offsetof(mvt_tile, point_count) == 104 && _Generic(((mvt_tile *)0)->point_count, size_t: 1, default: 0), "mvt_tile: point_count");
+static_assert(offsetof(mvt_tile, integers) == 112 && _Generic(((mvt_tile *)0)->integers, const uint32_t *: 1, default: 0), "mvt_tile: integers");
+static_assert(offsetof(mvt_tile, integer_count) == 120 && _Generic(((mvt_tile *)0)->integer_count, size_t: 1, default: 0), "mvt_tile: integer_count");
+static_assert(offsetof(mvt_tile, texts) == 128 && _Generic(((mvt_tile *)0)->texts, const uint8_t *: 1, default: 0), "mvt_tile: texts");
+static_assert(offsetof(mvt_tile, text_len) == 136 && _Generic(((mvt_tile *)0)->text_len, size_t: 1, default: 0), "mvt_tile: text_len");
 
 static_assert(sizeof(mvt_change_row) == 48, "mvt_change_row");
-static_assert(offsetof(mvt_change_row, kind) == 0, "mvt_change_row: kind");
-static_assert(offsetof(mvt_change_row, layer) == 8, "mvt_change_row: layer");
-static_assert(offsetof(mvt_change_row, feature) == 16, "mvt_change_row: feature");
-static_assert(offsetof(mvt_change_row, part) == 24, "mvt_change_row: part");
-static_assert(offsetof(mvt_change_row, count) == 32, "mvt_change_row: count");
-static_assert(offsetof(mvt_change_row, to) == 40, "mvt_change_row: to");
+static_assert(offsetof(mvt_change_row, kind) == 0 && _Generic(((mvt_change_row *)0)->kind, uint32_t: 1, default: 0), "mvt_change_row: kind");
+static_assert(offsetof(mvt_change_row, layer) == 8 && _Generic(((mvt_change_row *)0)->layer, uint64_t: 1, default: 0), "mvt_change_row: layer");
+static_assert(offsetof(mvt_change_row, feature) == 16 && _Generic(((mvt_change_row *)0)->feature, uint64_t: 1, default: 0), "mvt_change_row: feature");
+static_assert(offsetof(mvt_change_row, part) == 24 && _Generic(((mvt_change_row *)0)->part, uint64_t: 1, default: 0), "mvt_change_row: part");
+static_assert(offsetof(mvt_change_row, count) == 32 && _Generic(((mvt_change_row *)0)->count, uint64_t: 1, default: 0), "mvt_change_row: count");
+static_assert(offsetof(mvt_change_row, to) == 40 && _Generic(((mvt_change_row *)0)->to, uint64_t: 1, default: 0), "mvt_change_row: to");
 
 static_assert(sizeof(mvt_mended) == 32, "mvt_mended");
-static_assert(offsetof(mvt_mended, bytes) == 0, "mvt_mended: bytes");
-static_assert(offsetof(mvt_mended, changes) == 16, "mvt_mended: changes");
-static_assert(offsetof(mvt_mended, change_count) == 24, "mvt_mended: change_count");
+static_assert(offsetof(mvt_mended, bytes) == 0 && _Generic(((mvt_mended *)0)->bytes, mvt_bytes: 1, default: 0), "mvt_mended: bytes");
+static_assert(offsetof(mvt_mended, changes) == 16 && _Generic(((mvt_mended *)0)->changes, const mvt_change_row *: 1, default: 0), "mvt_mended: changes");
+static_assert(offsetof(mvt_mended, change_count) == 24 && _Generic(((mvt_mended *)0)->change_count, size_t: 1, default: 0), "mvt_mended: change_count");
 
 static_assert(sizeof(mvt_unmended_row) == 40, "mvt_unmended_row");
-static_assert(offsetof(mvt_unmended_row, kind) == 0, "mvt_unmended_row: kind");
-static_assert(offsetof(mvt_unmended_row, layer) == 8, "mvt_unmended_row: layer");
-static_assert(offsetof(mvt_unmended_row, feature) == 16, "mvt_unmended_row: feature");
-static_assert(offsetof(mvt_unmended_row, ring) == 24, "mvt_unmended_row: ring");
-static_assert(offsetof(mvt_unmended_row, other) == 32, "mvt_unmended_row: other");
+static_assert(offsetof(mvt_unmended_row, kind) == 0 && _Generic(((mvt_unmended_row *)0)->kind, uint32_t: 1, default: 0), "mvt_unmended_row: kind");
+static_assert(offsetof(mvt_unmended_row, layer) == 8 && _Generic(((mvt_unmended_row *)0)->layer, uint64_t: 1, default: 0), "mvt_unmended_row: layer");
+static_assert(offsetof(mvt_unmended_row, feature) == 16 && _Generic(((mvt_unmended_row *)0)->feature, uint64_t: 1, default: 0), "mvt_unmended_row: feature");
+static_assert(offsetof(mvt_unmended_row, ring) == 24 && _Generic(((mvt_unmended_row *)0)->ring, uint64_t: 1, default: 0), "mvt_unmended_row: ring");
+static_assert(offsetof(mvt_unmended_row, other) == 32 && _Generic(((mvt_unmended_row *)0)->other, uint64_t: 1, default: 0), "mvt_unmended_row: other");
 
 static_assert(sizeof(mvt_note_row) == 40, "mvt_note_row");
-static_assert(offsetof(mvt_note_row, kind) == 0, "mvt_note_row: kind");
-static_assert(offsetof(mvt_note_row, version) == 4, "mvt_note_row: version");
-static_assert(offsetof(mvt_note_row, layer) == 8, "mvt_note_row: layer");
-static_assert(offsetof(mvt_note_row, feature) == 16, "mvt_note_row: feature");
-static_assert(offsetof(mvt_note_row, ring) == 24, "mvt_note_row: ring");
-static_assert(offsetof(mvt_note_row, earlier) == 32, "mvt_note_row: earlier");
+static_assert(offsetof(mvt_note_row, kind) == 0 && _Generic(((mvt_note_row *)0)->kind, uint32_t: 1, default: 0), "mvt_note_row: kind");
+static_assert(offsetof(mvt_note_row, version) == 4 && _Generic(((mvt_note_row *)0)->version, uint32_t: 1, default: 0), "mvt_note_row: version");
+static_assert(offsetof(mvt_note_row, layer) == 8 && _Generic(((mvt_note_row *)0)->layer, uint64_t: 1, default: 0), "mvt_note_row: layer");
+static_assert(offsetof(mvt_note_row, feature) == 16 && _Generic(((mvt_note_row *)0)->feature, uint64_t: 1, default: 0), "mvt_note_row: feature");
+static_assert(offsetof(mvt_note_row, ring) == 24 && _Generic(((mvt_note_row *)0)->ring, uint64_t: 1, default: 0), "mvt_note_row: ring");
+static_assert(offsetof(mvt_note_row, earlier) == 32 && _Generic(((mvt_note_row *)0)->earlier, uint64_t: 1, default: 0), "mvt_note_row: earlier");
 
 static_assert(sizeof(mvt_summary) == 40, "mvt_summary");
-static_assert(offsetof(mvt_summary, layers) == 0, "mvt_summary: layers");
-static_assert(offsetof(mvt_summary, features) == 8, "mvt_summary: features");
-static_assert(offsetof(mvt_summary, is_canonical) == 16, "mvt_summary: is_canonical");
-static_assert(offsetof(mvt_summary, notes) == 24, "mvt_summary: notes");
-static_assert(offsetof(mvt_summary, note_count) == 32, "mvt_summary: note_count");
+static_assert(offsetof(mvt_summary, layers) == 0 && _Generic(((mvt_summary *)0)->layers, uint64_t: 1, default: 0), "mvt_summary: layers");
+static_assert(offsetof(mvt_summary, features) == 8 && _Generic(((mvt_summary *)0)->features, uint64_t: 1, default: 0), "mvt_summary: features");
+static_assert(offsetof(mvt_summary, is_canonical) == 16 && _Generic(((mvt_summary *)0)->is_canonical, uint32_t: 1, default: 0), "mvt_summary: is_canonical");
+static_assert(offsetof(mvt_summary, notes) == 24 && _Generic(((mvt_summary *)0)->notes, const mvt_note_row *: 1, default: 0), "mvt_summary: notes");
+static_assert(offsetof(mvt_summary, note_count) == 32 && _Generic(((mvt_summary *)0)->note_count, size_t: 1, default: 0), "mvt_summary: note_count");
 
 static_assert(sizeof(mvt_finding_row) == 40, "mvt_finding_row");
-static_assert(offsetof(mvt_finding_row, kind) == 0, "mvt_finding_row: kind");
-static_assert(offsetof(mvt_finding_row, has_feature) == 4, "mvt_finding_row: has_feature");
-static_assert(offsetof(mvt_finding_row, layer) == 8, "mvt_finding_row: layer");
-static_assert(offsetof(mvt_finding_row, feature) == 16, "mvt_finding_row: feature");
-static_assert(offsetof(mvt_finding_row, attribute) == 24, "mvt_finding_row: attribute");
-static_assert(offsetof(mvt_finding_row, x) == 32, "mvt_finding_row: x");
-static_assert(offsetof(mvt_finding_row, y) == 36, "mvt_finding_row: y");
+static_assert(offsetof(mvt_finding_row, kind) == 0 && _Generic(((mvt_finding_row *)0)->kind, uint32_t: 1, default: 0), "mvt_finding_row: kind");
+static_assert(offsetof(mvt_finding_row, has_feature) == 4 && _Generic(((mvt_finding_row *)0)->has_feature, uint32_t: 1, default: 0), "mvt_finding_row: has_feature");
+static_assert(offsetof(mvt_finding_row, layer) == 8 && _Generic(((mvt_finding_row *)0)->layer, uint64_t: 1, default: 0), "mvt_finding_row: layer");
+static_assert(offsetof(mvt_finding_row, feature) == 16 && _Generic(((mvt_finding_row *)0)->feature, uint64_t: 1, default: 0), "mvt_finding_row: feature");
+static_assert(offsetof(mvt_finding_row, attribute) == 24 && _Generic(((mvt_finding_row *)0)->attribute, uint64_t: 1, default: 0), "mvt_finding_row: attribute");
+static_assert(offsetof(mvt_finding_row, x) == 32 && _Generic(((mvt_finding_row *)0)->x, int32_t: 1, default: 0), "mvt_finding_row: x");
+static_assert(offsetof(mvt_finding_row, y) == 36 && _Generic(((mvt_finding_row *)0)->y, int32_t: 1, default: 0), "mvt_finding_row: y");
 
 static_assert(sizeof(mvt_findings) == 16, "mvt_findings");
-static_assert(offsetof(mvt_findings, rows) == 0, "mvt_findings: rows");
-static_assert(offsetof(mvt_findings, count) == 8, "mvt_findings: count");
+static_assert(offsetof(mvt_findings, rows) == 0 && _Generic(((mvt_findings *)0)->rows, const mvt_finding_row *: 1, default: 0), "mvt_findings: rows");
+static_assert(offsetof(mvt_findings, count) == 8 && _Generic(((mvt_findings *)0)->count, size_t: 1, default: 0), "mvt_findings: count");
 
 static_assert(sizeof(mvt_rows_fault) == 48, "mvt_rows_fault");
-static_assert(offsetof(mvt_rows_fault, layer) == 0, "mvt_rows_fault: layer");
-static_assert(offsetof(mvt_rows_fault, feature) == 8, "mvt_rows_fault: feature");
-static_assert(offsetof(mvt_rows_fault, has_feature) == 16, "mvt_rows_fault: has_feature");
-static_assert(offsetof(mvt_rows_fault, cause) == 20, "mvt_rows_fault: cause");
-static_assert(offsetof(mvt_rows_fault, rule) == 24, "mvt_rows_fault: rule");
-static_assert(offsetof(mvt_rows_fault, has_point) == 28, "mvt_rows_fault: has_point");
-static_assert(offsetof(mvt_rows_fault, part) == 32, "mvt_rows_fault: part");
-static_assert(offsetof(mvt_rows_fault, point) == 40, "mvt_rows_fault: point");
+static_assert(offsetof(mvt_rows_fault, layer) == 0 && _Generic(((mvt_rows_fault *)0)->layer, uint64_t: 1, default: 0), "mvt_rows_fault: layer");
+static_assert(offsetof(mvt_rows_fault, feature) == 8 && _Generic(((mvt_rows_fault *)0)->feature, uint64_t: 1, default: 0), "mvt_rows_fault: feature");
+static_assert(offsetof(mvt_rows_fault, has_feature) == 16 && _Generic(((mvt_rows_fault *)0)->has_feature, uint32_t: 1, default: 0), "mvt_rows_fault: has_feature");
+static_assert(offsetof(mvt_rows_fault, cause) == 20 && _Generic(((mvt_rows_fault *)0)->cause, uint32_t: 1, default: 0), "mvt_rows_fault: cause");
+static_assert(offsetof(mvt_rows_fault, rule) == 24 && _Generic(((mvt_rows_fault *)0)->rule, uint32_t: 1, default: 0), "mvt_rows_fault: rule");
+static_assert(offsetof(mvt_rows_fault, has_point) == 28 && _Generic(((mvt_rows_fault *)0)->has_point, uint32_t: 1, default: 0), "mvt_rows_fault: has_point");
+static_assert(offsetof(mvt_rows_fault, part) == 32 && _Generic(((mvt_rows_fault *)0)->part, uint64_t: 1, default: 0), "mvt_rows_fault: part");
+static_assert(offsetof(mvt_rows_fault, point) == 40 && _Generic(((mvt_rows_fault *)0)->point, uint64_t: 1, default: 0), "mvt_rows_fault: point");
 
 static_assert(sizeof(mvt_decoder) == 8, "mvt_decoder");
-static_assert(offsetof(mvt_decoder, held) == 0, "mvt_decoder: held");
+static_assert(offsetof(mvt_decoder, held) == 0 && _Generic(((mvt_decoder *)0)->held, void *: 1, default: 0), "mvt_decoder: held");
 
 static_assert(sizeof(mvt_builder) == 8, "mvt_builder");
-static_assert(offsetof(mvt_builder, held) == 0, "mvt_builder: held");
+static_assert(offsetof(mvt_builder, held) == 0 && _Generic(((mvt_builder *)0)->held, void *: 1, default: 0), "mvt_builder: held");
 
 static_assert(sizeof(mvt_any) == 32, "mvt_any");
-static_assert(offsetof(mvt_any, kind) == 0, "mvt_any: kind");
-static_assert(offsetof(mvt_any, bits) == 8, "mvt_any: bits");
-static_assert(offsetof(mvt_any, text) == 16, "mvt_any: text");
+static_assert(offsetof(mvt_any, kind) == 0 && _Generic(((mvt_any *)0)->kind, uint32_t: 1, default: 0), "mvt_any: kind");
+static_assert(offsetof(mvt_any, bits) == 8 && _Generic(((mvt_any *)0)->bits, uint64_t: 1, default: 0), "mvt_any: bits");
+static_assert(offsetof(mvt_any, text) == 16 && _Generic(((mvt_any *)0)->text, mvt_bytes: 1, default: 0), "mvt_any: text");
 
 static_assert(sizeof(mvt_place) == 48, "mvt_place");
-static_assert(offsetof(mvt_place, layer_name) == 0, "mvt_place: layer_name");
-static_assert(offsetof(mvt_place, has_layer_name) == 16, "mvt_place: has_layer_name");
-static_assert(offsetof(mvt_place, has_feature_id) == 20, "mvt_place: has_feature_id");
-static_assert(offsetof(mvt_place, feature_id) == 24, "mvt_place: feature_id");
-static_assert(offsetof(mvt_place, start) == 32, "mvt_place: start");
-static_assert(offsetof(mvt_place, end) == 40, "mvt_place: end");
+static_assert(offsetof(mvt_place, layer_name) == 0 && _Generic(((mvt_place *)0)->layer_name, mvt_bytes: 1, default: 0), "mvt_place: layer_name");
+static_assert(offsetof(mvt_place, has_layer_name) == 16 && _Generic(((mvt_place *)0)->has_layer_name, uint32_t: 1, default: 0), "mvt_place: has_layer_name");
+static_assert(offsetof(mvt_place, has_feature_id) == 20 && _Generic(((mvt_place *)0)->has_feature_id, uint32_t: 1, default: 0), "mvt_place: has_feature_id");
+static_assert(offsetof(mvt_place, feature_id) == 24 && _Generic(((mvt_place *)0)->feature_id, uint64_t: 1, default: 0), "mvt_place: feature_id");
+static_assert(offsetof(mvt_place, start) == 32 && _Generic(((mvt_place *)0)->start, uint64_t: 1, default: 0), "mvt_place: start");
+static_assert(offsetof(mvt_place, end) == 40 && _Generic(((mvt_place *)0)->end, uint64_t: 1, default: 0), "mvt_place: end");
 
 static_assert(sizeof(mvt_bounds) == 24, "mvt_bounds");
-static_assert(offsetof(mvt_bounds, start) == 0, "mvt_bounds: start");
-static_assert(offsetof(mvt_bounds, body) == 8, "mvt_bounds: body");
-static_assert(offsetof(mvt_bounds, end) == 16, "mvt_bounds: end");
+static_assert(offsetof(mvt_bounds, start) == 0 && _Generic(((mvt_bounds *)0)->start, uint64_t: 1, default: 0), "mvt_bounds: start");
+static_assert(offsetof(mvt_bounds, body) == 8 && _Generic(((mvt_bounds *)0)->body, uint64_t: 1, default: 0), "mvt_bounds: body");
+static_assert(offsetof(mvt_bounds, end) == 16 && _Generic(((mvt_bounds *)0)->end, uint64_t: 1, default: 0), "mvt_bounds: end");
 
 static_assert(sizeof(mvt_field) == 32, "mvt_field");
-static_assert(offsetof(mvt_field, number) == 0, "mvt_field: number");
-static_assert(offsetof(mvt_field, wire_type) == 4, "mvt_field: wire_type");
-static_assert(offsetof(mvt_field, bounds) == 8, "mvt_field: bounds");
+static_assert(offsetof(mvt_field, number) == 0 && _Generic(((mvt_field *)0)->number, uint32_t: 1, default: 0), "mvt_field: number");
+static_assert(offsetof(mvt_field, wire_type) == 4 && _Generic(((mvt_field *)0)->wire_type, uint32_t: 1, default: 0), "mvt_field: wire_type");
+static_assert(offsetof(mvt_field, bounds) == 8 && _Generic(((mvt_field *)0)->bounds, mvt_bounds: 1, default: 0), "mvt_field: bounds");
 
 static_assert(sizeof(mvt_integer) == 24, "mvt_integer");
-static_assert(offsetof(mvt_integer, value) == 0, "mvt_integer: value");
-static_assert(offsetof(mvt_integer, start) == 8, "mvt_integer: start");
-static_assert(offsetof(mvt_integer, end) == 16, "mvt_integer: end");
+static_assert(offsetof(mvt_integer, value) == 0 && _Generic(((mvt_integer *)0)->value, uint64_t: 1, default: 0), "mvt_integer: value");
+static_assert(offsetof(mvt_integer, start) == 8 && _Generic(((mvt_integer *)0)->start, uint64_t: 1, default: 0), "mvt_integer: start");
+static_assert(offsetof(mvt_integer, end) == 16 && _Generic(((mvt_integer *)0)->end, uint64_t: 1, default: 0), "mvt_integer: end");
 
 static_assert(sizeof(mvt_step) == 24, "mvt_step");
-static_assert(offsetof(mvt_step, role) == 0, "mvt_step: role");
-static_assert(offsetof(mvt_step, left) == 4, "mvt_step: left");
-static_assert(offsetof(mvt_step, x) == 8, "mvt_step: x");
-static_assert(offsetof(mvt_step, y) == 16, "mvt_step: y");
+static_assert(offsetof(mvt_step, role) == 0 && _Generic(((mvt_step *)0)->role, uint32_t: 1, default: 0), "mvt_step: role");
+static_assert(offsetof(mvt_step, left) == 4 && _Generic(((mvt_step *)0)->left, uint32_t: 1, default: 0), "mvt_step: left");
+static_assert(offsetof(mvt_step, x) == 8 && _Generic(((mvt_step *)0)->x, int64_t: 1, default: 0), "mvt_step: x");
+static_assert(offsetof(mvt_step, y) == 16 && _Generic(((mvt_step *)0)->y, int64_t: 1, default: 0), "mvt_step: y");
 
 static_assert(sizeof(mvt_surroundings) == 240, "mvt_surroundings");
-static_assert(offsetof(mvt_surroundings, place) == 0, "mvt_surroundings: place");
-static_assert(offsetof(mvt_surroundings, has_layer) == 48, "mvt_surroundings: has_layer");
-static_assert(offsetof(mvt_surroundings, has_extent) == 52, "mvt_surroundings: has_extent");
-static_assert(offsetof(mvt_surroundings, has_feature) == 56, "mvt_surroundings: has_feature");
-static_assert(offsetof(mvt_surroundings, has_kind) == 60, "mvt_surroundings: has_kind");
-static_assert(offsetof(mvt_surroundings, layer) == 64, "mvt_surroundings: layer");
-static_assert(offsetof(mvt_surroundings, feature) == 88, "mvt_surroundings: feature");
-static_assert(offsetof(mvt_surroundings, message) == 112, "mvt_surroundings: message");
-static_assert(offsetof(mvt_surroundings, extent) == 136, "mvt_surroundings: extent");
-static_assert(offsetof(mvt_surroundings, kind) == 144, "mvt_surroundings: kind");
-static_assert(offsetof(mvt_surroundings, list) == 152, "mvt_surroundings: list");
-static_assert(offsetof(mvt_surroundings, keys) == 160, "mvt_surroundings: keys");
-static_assert(offsetof(mvt_surroundings, key_count) == 168, "mvt_surroundings: key_count");
-static_assert(offsetof(mvt_surroundings, tags) == 176, "mvt_surroundings: tags");
-static_assert(offsetof(mvt_surroundings, tag_count) == 184, "mvt_surroundings: tag_count");
-static_assert(offsetof(mvt_surroundings, geometry) == 192, "mvt_surroundings: geometry");
-static_assert(offsetof(mvt_surroundings, geometry_count) == 200, "mvt_surroundings: geometry_count");
-static_assert(offsetof(mvt_surroundings, steps) == 208, "mvt_surroundings: steps");
-static_assert(offsetof(mvt_surroundings, step_count) == 216, "mvt_surroundings: step_count");
-static_assert(offsetof(mvt_surroundings, fields) == 224, "mvt_surroundings: fields");
-static_assert(offsetof(mvt_surroundings, field_count) == 232, "mvt_surroundings: field_count");
-
+static_assert(offsetof(mvt_surroundings, place) == 0 && _Generic(((mvt_surroundings *)0)->place, mvt_place: 1, default: 0), "mvt_surroundings: place");
+static_assert(offsetof(mvt_surroundings, has_layer) == 48 && _Generic(((mvt_surroundings *)0)->has_layer, uint32_t: 1, default: 0), "mvt_surroundings: has_layer");
+static_assert(offsetof(mvt_surroundings, has_extent) == 52 && _Generic(((mvt_surroundings *)0)->has_extent, uint32_t: 1, default: 0), "mvt_surroundings: has_extent");
+static_assert(offsetof(mvt_surroundings, has_feature) == 56 && _Generic(((mvt_surroundings *)0)->has_feature, uint32_t: 1, default: 0), "mvt_surroundings: has_feature");
+static_assert(offsetof(mvt_surroundings, has_kind) == 60 && _Generic(((mvt_surroundings *)0)->has_kind, uint32_t: 1, default: 0), "mvt_surroundings: has_kind");
+static_assert(offsetof(mvt_surroundings, layer) == 64 && _Generic(((mvt_surroundings *)0)->layer, mvt_bounds: 1, default: 0), "mvt_surroundings: layer");
+static_assert(offsetof(mvt_surroundings, feature) == 88 && _Generic(((mvt_surroundings *)0)->feature, mvt_bounds: 1, default: 0), "mvt_surroundings: feature");
+static_assert(offsetof(mvt_surroundings, message) == 112 && _Generic(((mvt_surroundings *)0)->message, mvt_bounds: 1, default: 0), "mvt_surroundings: message");
+static_assert(offsetof(mvt_surroundings, extent) == 136 && _Generic(((mvt_surroundings *)0)->extent, uint64_t: 1, default: 0), "mvt_surroundings: extent");
+static_assert(offsetof(mvt_surroundings, kind) == 144 && _Generic(((mvt_surroundings *)0)->kind, uint64_t: 1, default: 0), "mvt_surroundings: kind");
+static_assert(offsetof(mvt_surroundings, list) == 152 && _Generic(((mvt_surroundings *)0)->list, uint32_t: 1, default: 0), "mvt_surroundings: list");
+static_assert(offsetof(mvt_surroundings, keys) == 160 && _Generic(((mvt_surroundings *)0)->keys, const mvt_bounds *: 1, default: 0), "mvt_surroundings: keys");
+static_assert(offsetof(mvt_surroundings, key_count) == 168 && _Generic(((mvt_surroundings *)0)->key_count, size_t: 1, default: 0), "mvt_surroundings: key_count");
+static_assert(offsetof(mvt_surroundings, tags) == 176 && _Generic(((mvt_surroundings *)0)->tags, const mvt_integer *: 1, default: 0), "mvt_surroundings: tags");
+static_assert(offsetof(mvt_surroundings, tag_count) == 184 && _Generic(((mvt_surroundings *)0)->tag_count, size_t: 1, default: 0), "mvt_surroundings: tag_count");
+static_assert(offsetof(mvt_surroundings, geometry) == 192 && _Generic(((mvt_surroundings *)0)->geometry, const mvt_integer *: 1, default: 0), "mvt_surroundings: geometry");
+static_assert(offsetof(mvt_surroundings, geometry_count) == 200 && _Generic(((mvt_surroundings *)0)->geometry_count, size_t: 1, default: 0), "mvt_surroundings: geometry_count");
+static_assert(offsetof(mvt_surroundings, steps) == 208 && _Generic(((mvt_surroundings *)0)->steps, const mvt_step *: 1, default: 0), "mvt_surroundings: steps");
+static_assert(offsetof(mvt_surroundings, step_count) == 216 && _Generic(((mvt_surroundings *)0)->step_count, size_t: 1, default: 0), "mvt_surroundings: step_count");
+static_assert(offsetof(mvt_surroundings, fields) == 224 && _Generic(((mvt_surroundings *)0)->fields, const mvt_field *: 1, default: 0), "mvt_surroundings: fields");
+static_assert(offsetof(mvt_surroundings, field_count) == 232 && _Generic(((mvt_surroundings *)0)->field_count, size_t: 1, default: 0), "mvt_surroundings: field_count");
 mvt_status (*const call_mvt_rewrite)(const uint8_t *, size_t, mvt_bytes *, mvt_fault *) = mvt_rewrite;
 mvt_status (*const call_mvt_mend)(const uint8_t *, size_t, mvt_mended *, mvt_fault *, mvt_unmended_row *) = mvt_mend;
 mvt_status (*const call_mvt_extract)(const uint8_t *, size_t, const mvt_bytes *, size_t, mvt_bytes *, mvt_fault *, size_t *) = mvt_extract;

@@ -122,15 +122,5 @@ def test_analyzer(path):
     run("gcc", *C[1:], "-fanalyzer", f"-I{sysconfig.get_path('include')}", "-c", "-o", "/dev/null", path)
 
 
-def test_one_version():
-    """Each package has the version of mvt.h, also where one asks for another."""
-    [version] = re.findall(r'^#define MVT_VERSION "(.*)"$', (TOP / "library/c/mvt.h").read_text(), re.M)
-    for name in ("library/python/pyproject.toml", "tools/pyproject.toml", "library/rust/libmvt-sys/Cargo.toml", "library/rust/libmvt/Cargo.toml"):
-        text = (TOP / name).read_text()
-        assert f'\nversion = "{version}"\n' in text, name
-        asked = re.findall(r'.*(?:libmvt|mvt-tools[^=]*|libmvt-sys.*)==?[ "]*[0-9].*', text)
-        assert not [line for line in asked if version not in line], name
-
-
 def test_other_languages_have_what_mvt_h_says():
     run(TOP / "library/layout.py", "--check")

@@ -18,8 +18,9 @@ from documented import program_of
 from room import BUILT, TILES, TOP, all_cases, made, needs, run
 
 pytestmark = [pytest.mark.xdist_group("packages"), needs("dpkg-deb", "dpkg", "dh", "dh_python3", "pandoc", "pkg-config", "man", "g++")]
-NAMES = ["mvt", "libmvt0.3", "libmvt-dev", "python3-libmvt", "mvt-tools"]
 [VERSION] = re.findall(r'^#define MVT_VERSION "(.*)"$', (TOP / "library/c/mvt.h").read_text(), re.M)
+SERIES = VERSION.rpartition(".")[0]
+NAMES = ["mvt", f"libmvt{SERIES}", "libmvt-dev", "python3-libmvt", "mvt-tools"]
 LAYERS = "places: 3 features\nroads: 2 features\nwater: 2 features\n"
 GDAL, REPORT = TILES / "gdal.mvt", (TILES / "gdal.check").read_text()
 HERE = Path(__file__).parent
@@ -149,7 +150,7 @@ class TestInstalled:
 
     def test_c(self, tmp_path):
         run("cc", "-std=c11", "-o", tmp_path / "filter", TOP / "examples/c/filter.c", *flags("--cflags", "--libs"))
-        assert "libmvt.so.0.3 => /" in run("ldd", tmp_path / "filter").stdout
+        assert f"libmvt.so.{SERIES} => /" in run("ldd", tmp_path / "filter").stdout
         run(sys.executable, HERE / "filter.py", tmp_path / "filter")
 
     def test_c_static(self, tmp_path):
@@ -191,7 +192,7 @@ class TestInstalled:
 def with_cmake(folder, *words):
     """CMake finds the library, and projects are built with it: in C, shared and static, and in C++."""
     for project in (".", "cpp"):
-        run("cmake", "-S", HERE / "cmake" / project, "-B", folder / "made" / project, f"-DEXAMPLES={TOP}/examples", *words)
+        run("cmake", "-S", HERE / "cmake" / project, "-B", folder / "made" / project, f"-DEXAMPLES={TOP}/examples", f"-DSERIES={SERIES}", *words)
         run("cmake", "--build", folder / "made" / project)
     for kind in ("shared", "static"):
         run(sys.executable, HERE / "filter.py", folder / "made" / f"filter_{kind}")

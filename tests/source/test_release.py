@@ -1,6 +1,9 @@
-"""packaging/release refuses what is no release, before it makes anything: changes that aren't committed, versions that differ, and
-a changelog without the release's head."""
+"""One version: each place says that of mvt.h, or is told. packaging/release refuses what is no release, before it makes anything:
+changes that aren't committed, versions that differ, and a changelog without the release's head."""
 
+import importlib.machinery
+import importlib.util
+import re
 import shutil
 import subprocess
 from pathlib import Path
@@ -8,17 +11,36 @@ from pathlib import Path
 import pytest
 
 TOP = Path(__file__).resolve().parents[2]
-FILES = [
-    "packaging/release", "library/c/mvt.h", "library/python/pyproject.toml", "tools/pyproject.toml", "library/rust/libmvt/Cargo.toml",
-    "library/rust/libmvt-sys/Cargo.toml", "crates/mvt_tasks/src/version.rt", "crates/mvt_tasks/specs/Output.antt", "README.md",
-    "CHANGELOG.md",
-]  # fmt: skip
+_loader = importlib.machinery.SourceFileLoader("version", str(TOP / "packaging/version"))
+version = importlib.util.module_from_spec(importlib.util.spec_from_loader("version", _loader))
+_loader.exec_module(version)
+PLACES = [(name, before) for name, places in version.PLACES.items() for before, _ in places]
+
+
+def asked(top, *words):
+    return subprocess.run([top / "packaging/version", *words], capture_output=True, text=True)
+
+
+@pytest.mark.parametrize("name", version.PLACES)
+def test_one_version(name):
+    """`packaging/version --write` mends it."""
+    assert version.differing(name, (TOP / name).read_text())[0] == []
+
+
+def grep(*words):
+    return subprocess.run(["git", "grep", *words, "--", ":!crates/*/proofs/*"], cwd=TOP, capture_output=True, text=True).stdout.splitlines()
+
+
+def test_nothing_else_says_it():
+    """No other file has the version, and where one names the shared library or its package, it has this series."""
+    assert set(grep("-lwF", version.VERSION)) <= {*version.PLACES}
+    assert set(grep("-ohE", r"\blibmvt(\.so\.)?[0-9]+\.[0-9]+")) <= {f"libmvt.so.{version.SERIES}", f"libmvt{version.SERIES}"}
 
 
 @pytest.fixture
 def clone(tmp_path):
     """A repository of the files that say the version."""
-    for name in FILES:
+    for name in ("packaging/release", "packaging/version", *version.PLACES):
         (tmp_path / "clone" / name).parent.mkdir(parents=True, exist_ok=True)
         shutil.copy(TOP / name, tmp_path / "clone" / name)
     subprocess.run(["git", "init", "-q", tmp_path / "clone"], check=True)
@@ -41,17 +63,26 @@ def test_changes(clone):
     assert "aren't committed" in refused(clone)
 
 
-@pytest.mark.parametrize("name", [name for name in FILES[2:] if name != "CHANGELOG.md"])
-def test_another_version(clone, name):
-    text, [version] = (clone / name).read_text(), [
-        line.split('"')[1] for line in (clone / "library/c/mvt.h").read_text().splitlines() if "define MVT_VERSION " in line
-    ]
-    assert version in text
-    (clone / name).write_text(text.replace(version, version + "7", 1))
+@pytest.mark.parametrize("name, before", PLACES)
+def test_another_version(clone, name, before):
+    """It is told, and written over."""
+    asked(clone, "--write")
+    text = (clone / name).read_text()
+    other, count = re.subn(f"({before}){version.NUMBER}", r"\g<0>7", text, count=1, flags=re.M)
+    assert count == 1
+    (clone / name).write_text(other)
     committed(clone)
-    assert name in refused(clone)
+    assert f"\n{name}: says " in refused(clone)
+    assert asked(clone, "--write").returncode == 0
+    assert (clone / name).read_text() == text and asked(clone).stdout == ""
+
+
+def test_a_place_that_is_gone(clone):
+    (clone / "README.md").write_text("# mvt\n")
+    assert "README.md: says no version" in asked(clone).stdout
 
 
 def test_no_head(clone):
+    asked(clone, "--write")
     committed(clone)
     assert "CHANGELOG.md has no head" in refused(clone)

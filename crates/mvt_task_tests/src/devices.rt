@@ -23,7 +23,7 @@ fn tells_the_version(rt: HostRuntime) {
         read_from: 0,
         ..SOUND
     };
-    let answer: (u8, &[u8], &str) = (0, b"mvt 0.3.0\n", "");
+    let answer: (u8, &[u8], &str) = (0, b"mvt 0.4.0\n", "");
     let calls = expect_run(&rt, Command::Version, ONE_POINT, failing, answer);
     expect_eq!(rt; calls.flushes, 1);
 }

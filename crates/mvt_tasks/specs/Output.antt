@@ -147,7 +147,7 @@ IsMendReply limit input reply =
 
 -- the program's name and version
 abbrev pub version_line : List ℕ
-version_line = codes "mvt 0.3.0\n"
+version_line = codes "mvt 0.4.0\n"
 
 -- what a task answers for an input
 abbrev pub IsReply : ℕ → Task → List ℕ → Reply → Type 0

@@ -13,7 +13,7 @@ pub(crate) fn told_version(alloc: Global) -> Result<Reply, Failure>
     ensures failed { IfErr result (λ failure. failure ≡ Failure.Memory) }
 {
     Ok(Reply {
-        output: Some(Items::new(Vec::from_slice(alloc, b"mvt 0.3.0\n")?)),
+        output: Some(Items::new(Vec::from_slice(alloc, b"mvt 0.4.0\n")?)),
         error_line: None,
         changes: None,
         has_findings: false,

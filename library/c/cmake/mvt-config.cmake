@@ -1,4 +1,4 @@
-# The library libmvt for CMake: find_package(mvt 0.3 REQUIRED), and then
+# The library libmvt for CMake: find_package(mvt @SERIES@ REQUIRED), and then
 #     target_link_libraries(app PRIVATE mvt::mvt)           the shared library
 #     target_link_libraries(app PRIVATE mvt::mvt_static)    the static one
 find_path(mvt_INCLUDE_DIR mvt.h HINTS "${CMAKE_CURRENT_LIST_DIR}" "${CMAKE_CURRENT_LIST_DIR}/../../../include"
