@@ -42,10 +42,29 @@ LOOKS = {
 }
 
 
-def said(program, words, stdin=b"", is_terminal=True):
+# Names of files, and the words of a shell that name them in a command that is pasted.
+WORDS = {
+    "town.mvt.gz": "town.mvt.gz",
+    "my town.gz": "'my town.gz'",
+    "it's.gz": "'it'\\''s.gz'",
+    "$(touch gone).gz": "'$(touch gone).gz'",
+    "a;b&c|d>e*?.gz": "'a;b&c|d>e*?.gz'",
+    "stra\u00dfe.gz": "'stra\u00dfe.gz'",
+    "-c.gz": "./-c.gz",
+    "-it's.gz": "./'-it'\\''s.gz'",
+    # A terminal would obey these.
+    "\x1b[31m.gz": "FILE",
+    "a\nb.gz": "FILE",
+    "\u009b31m.gz": "FILE",
+    "\u202ezg.gz": "FILE",
+    "\x7f.gz": "FILE",
+}
+
+
+def said(program, words, stdin=b"", is_terminal=True, folder=None):
     """The status, the output, and the lines of errors, over a terminal or a pipe."""
     ours, theirs = pty.openpty() if is_terminal else os.pipe()
-    done = subprocess.Popen([program, *map(str, words)], stdin=subprocess.PIPE, stdout=subprocess.PIPE, stderr=theirs)
+    done = subprocess.Popen([program, *map(str, words)], stdin=subprocess.PIPE, stdout=subprocess.PIPE, stderr=theirs, cwd=folder)
     os.close(theirs)
     out, _ = done.communicate(stdin, timeout=60)
     lines = b""
@@ -87,6 +106,34 @@ def test_the_first_odd_file_is_told(mvt, tmp_path):
     adds(mvt, ["check", good, packed, page, good, packed], b"", f"it looks like gzip: gunzip -c {packed} | mvt check")
 
 
+@pytest.mark.parametrize("name, word", WORDS.items(), ids=[f"{name!a}" for name in WORDS])
+def test_a_name_is_a_word_of_a_shell(mvt, tmp_path, name, word):
+    """The command that is told can be pasted as it stands: it reads that file, and does nothing else."""
+    (tmp_path / name).write_bytes(gzip.compress(GOOD))
+    _, _, lines = said(mvt, ["check", "--", name], folder=tmp_path)
+    hint = f"mvt: it looks like gzip: gunzip -c {word} | mvt check"
+    assert lines[-1] == hint
+    _, _, lines = said(mvt, ["check", "--", f"no {name}"], folder=tmp_path)
+    assert lines[-1] == f"mvt: {'FILE' if word == 'FILE' else quoted(f'no {name}')}: there is no such file"
+    if word != "FILE":
+        commands = tmp_path / "commands"
+        commands.mkdir()
+        (commands / "mvt").symlink_to(Path(mvt).resolve())
+        pasted = subprocess.run(
+            ["sh", "-c", hint.removeprefix("mvt: it looks like gzip: ")],
+            cwd=tmp_path,
+            env={"PATH": f"{commands}:{os.environ['PATH']}"},
+            capture_output=True,
+            timeout=60,
+        )
+        assert pasted.returncode == 0 and pasted.stdout.startswith(b"ok "), pasted
+        assert sorted(it.name for it in tmp_path.iterdir()) == sorted([name, "commands"])
+
+
+def quoted(name):
+    return "'" + name.replace("'", "'\\''") + "'"
+
+
 def test_why_a_file_is_unread(mvt, tmp_path):
     absent, locked = tmp_path / "absent", tmp_path / "locked"
     locked.write_bytes(GOOD)
@@ -109,10 +156,10 @@ def test_the_version_is_that_of_the_library(run, words):
 
 
 def test_a_file_in_the_place_of_a_command(run):
-    for words, meant in ((["a.mvt"], "a.mvt"), (["./a", "b"], "./a")):
+    for words, meant in ((["a.mvt"], "a.mvt"), (["./a", "b"], "./a"), (["my town.mvt"], "'my town.mvt'")):
         status, output, errors = run(*words)
         assert (status, output) == (2, b"")
-        assert errors.splitlines()[-1] == f"did you mean 'mvt check {meant}'?"
+        assert errors.splitlines()[-1] == f"did you mean: mvt check {meant}"
     for word in ("chek", "--a.b", "-a/b"):
         status, output, errors = run(word)
-        assert (status, output) == (2, b"") and "did you mean 'mvt check" not in errors
+        assert (status, output) == (2, b"") and "did you mean: mvt check" not in errors

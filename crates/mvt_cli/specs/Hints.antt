@@ -1,7 +1,9 @@
 -- What a person at a terminal is told below the program's lines.
-use Rattle.std.specs.Prelude.{ℕ, ◌==◌, ◌||◌, Bool, List, [], ◌++◌, length, Option, Some, None, codes, if◌then◌else◌}
+use Rattle.std.specs.Prelude.{ℕ, ◌==◌, ◌&&◌, ◌||◌, not, Bool, List, [], ◌++◌, length, take, Option, Some, None, Result, Ok, Err, codes, if◌then◌else◌}
+use Rattle.std.specs.declared.io.ErrorKind.{ErrorKind}
 use Rattle.std.specs.declared.io.ErrorKind.TheVariants.{NotFound, PermissionDenied, IsADirectory}
 use Rattle.mvt_places.specs.Lookalikes.{lookalike_of}
+use Rattle.mvt_places.specs.Quoting.{shell_word}
 use Rattle.mvt_places.specs.declared.lookalike.Lookalike.{Lookalike}
 use Rattle.mvt_places.specs.declared.lookalike.Lookalike.TheVariants.{Gzip, Zlib, Zstd, Png, Sqlite, Pmtiles, Json, Html, Jpeg, Gif, Webp, FlatGeobuf, Xz, Bzip2, Zip, Pdf, OsmPbf, Xml, PlainText, Brotli, Mbtiles}
 use Rattle.mvt_cli.specs.declared.hints.Oddity.{Oddity}
@@ -14,6 +16,20 @@ look_of (Some lookalike) = Some (Looks lookalike)
 -- what is odd about an input after a read: the first that gives bytes tells
 abbrev pub odd_begin : Bool → List ℕ → Option Oddity → Option Oddity
 odd_begin is_begun bytes oddity = if is_begun || (length bytes == 0) then oddity else look_of (lookalike_of bytes)
+
+-- the same after a read that failed: why it did
+abbrev pub odd_after : Bool → Result ℕ ErrorKind → List ℕ → Option Oddity → Option Oddity
+odd_after is_begun (Ok count) buffer oddity = odd_begin is_begun (take count buffer) oddity
+odd_after is_begun (Err kind) buffer oddity = Some (Unread kind)
+
+-- an input is begun by the first read that gives bytes
+abbrev pub begun_after : Bool → Result ℕ ErrorKind → Bool
+begun_after is_begun (Ok count) = is_begun || not (count == 0)
+begun_after is_begun (Err kind) = is_begun
+
+-- a hint is told at a terminal, where a tile is refused or an input can't be read
+abbrev pub is_told : ℕ → Bool → Bool
+is_told status is_terminal = is_terminal && ((status == 1) || (status == 3))
 
 -- what an input looks like, in words
 unfoldable pub name_of : Lookalike → List ℕ
@@ -68,9 +84,10 @@ remedy (Some command) file part = codes ": " ++ (command ++ (codes " " ++ (file 
 -- what can be done about an input, by its name
 unfoldable pub hint_of : List ℕ → Oddity → List ℕ
 hint_of file (Looks lookalike) =
-    codes "mvt: it looks like " ++ (name_of lookalike ++ remedy (command_of lookalike) file (part_of lookalike))
-hint_of file (Unread NotFound) = codes "mvt: " ++ (file ++ codes ": there is no such file\n")
-hint_of file (Unread PermissionDenied) = codes "mvt: " ++ (file ++ codes ": no permission to read it\n")
+    codes "mvt: it looks like " ++ (name_of lookalike ++ remedy (command_of lookalike) (shell_word file) (part_of lookalike))
+hint_of file (Unread NotFound) = codes "mvt: " ++ (shell_word file ++ codes ": there is no such file\n")
+hint_of file (Unread PermissionDenied) = codes "mvt: " ++ (shell_word file ++ codes ": no permission to read it\n")
 hint_of file (Unread IsADirectory) =
-    codes "mvt: " ++ (file ++ (codes ": it is a folder: mvt-audit " ++ (file ++ codes " --into audit\n")))
+    codes "mvt: "
+    ++ (shell_word file ++ (codes ": it is a folder: mvt-audit " ++ (shell_word file ++ codes " --into audit\n")))
 hint_of file (Unread kind) = []

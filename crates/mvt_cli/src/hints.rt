@@ -1,15 +1,15 @@
 //! What a person at a terminal is told below the program's lines: what an input looks like that is
 //! no tile, and why one can't be read.
-ghost use Rattle.std.specs.Prelude.{◌≡◌, ◌==◌, ◌||◌, not, Option, Some, None, false, length, IfOk, string_bytes};
+ghost use Rattle.std.specs.Prelude.{◌≡◌, ◌==◌, ◌||◌, ◌⊎◌, ◌≤◌, ◌++◌, not, Option, Some, None, false, length, codes, IfOk, string_bytes};
 ghost use Rattle.std.specs.Option.{option_copied, option_map, option_or, option_zip};
 ghost use Rattle.std.specs.Result.{result_ok};
 ghost use Rattle.mvt_places.specs.Lookalikes.{lookalike_of};
-ghost use Rattle.mvt_cli.specs.declared.hints.Oddity.TheVariants.{Looks};
-ghost use Rattle.mvt_cli.specs.Hints.{command_of, hint_of, look_of, name_of, odd_begin, part_of};
+ghost use Rattle.mvt_cli.specs.declared.hints.Oddity.TheVariants.{Unread};
+ghost use Rattle.mvt_cli.specs.Hints.{begun_after, command_of, hint_of, is_told as the_is_told, look_of, name_of, odd_after, odd_begin, part_of, remedy};
 
 use mvt_base::Text;
 use mvt_io::Source;
-use mvt_places::{Lookalike, looks_like};
+use mvt_places::{Lookalike, looks_like, shell_word};
 use mvt_tasks::Folder;
 use std::alloc::{AllocError, Global};
 use std::io::ErrorKind;
@@ -50,6 +50,20 @@ impl<R> Watched<R> {
         self.oddity
     }
 
+    /// Notes what is odd about a read that answered this and filled a front of the buffer.
+    fn note_read(&mut self, read: &Result<usize, ErrorKind>, buffer: &[u8])
+        requires { IfOk read.now (λ count. count ≤ length buffer.now) }
+        ensures same { self.new.inner ≡ self.old.inner }
+        ensures begun { self.new.is_begun ≡ begun_after self.old.is_begun read.now }
+        ensures odd { self.new.oddity
+            ≡ odd_after self.old.is_begun read.now buffer.now self.old.oddity }
+    {
+        match read {
+            Ok(count) => self.note(&buffer[..*count]),
+            Err(kind) => self.oddity = Some(Oddity::Unread(*kind)),
+        }
+    }
+
     /// Looks at the first bytes that a read gave.
     fn note(&mut self, bytes: &[u8])
         ensures same { self.new.inner ≡ self.old.inner }
@@ -77,16 +91,9 @@ impl<R: Source> Source for Watched<R> {
     ghost state = { λ w. R.state w.inner };
 
     fn read(&mut self, buffer: &mut [u8]) -> Result<usize, ErrorKind> {
-        match self.inner.read(buffer) {
-            Ok(count) => {
-                self.note(&buffer[..count]);
-                Ok(count)
-            }
-            Err(kind) => {
-                self.oddity = Some(Oddity::Unread(kind));
-                Err(kind)
-            }
-        }
+        let read = self.inner.read(buffer);
+        self.note_read(&read, buffer);
+        read
     }
 }
 
@@ -118,6 +125,16 @@ impl<F> WatchedFolder<F> {
         &self.noted
     }
 
+    /// Notes why the file of this name can't be opened, unless memory for the name is wanting.
+    fn note_unopened(&mut self, name: &str, kind: ErrorKind)
+        ensures same { self.new.inner ≡ self.old.inner }
+        ensures first { (self.new.noted ≡ self.old.noted)
+            ⊎ (self.new.noted ≡ option_or self.old.noted (Some (name.now, Unread kind))) }
+    {
+        let text = Text::from_str(self.alloc, name);
+        self.note(text, Some(Oddity::Unread(kind)));
+    }
+
     /// Without memory for the name nothing is noted.
     fn note(&mut self, name: Result<Text, AllocError>, oddity: Option<Oddity>)
         ensures same { self.new.inner ≡ self.old.inner }
@@ -145,8 +162,7 @@ impl<F: Folder> Folder for WatchedFolder<F> {
         match self.inner.open(name) {
             Ok(reader) => Ok(Watched::new(reader)),
             Err(kind) => {
-                let text = Text::from_str(self.alloc, name);
-                self.note(text, Some(Oddity::Unread(kind)));
+                self.note_unopened(name, kind);
                 Err(kind)
             }
         }
@@ -160,12 +176,21 @@ impl<F: Folder> Folder for WatchedFolder<F> {
     }
 }
 
+/// Whether a hint is told, of a run that ends with this status.
+pub fn is_told(status: u8, is_terminal: bool) -> bool
+    ensures { result ≡ the_is_told status is_terminal }
+{
+    is_terminal && (status == 1 || status == 3)
+}
+
 /// The line about an odd input, or nothing if there is nothing to add; `file` is the input's name,
-/// if it has one.
+/// or FILE where it has none. In its commands the name is a word of a shell.
 #[tactic(auto, unfolding(crate::specs::Hints::hint_of))]
 pub fn hint(alloc: Global, file: &str, oddity: Oddity) -> Result<String, AllocError>
     ensures { IfOk result (λ line. string_bytes line ≡ hint_of file.now oddity) }
 {
+    let word = shell_word(alloc, file)?;
+    let file = word.as_str();
     match oddity {
         Oddity::Looks(lookalike) => look_hint(alloc, file, lookalike),
         Oddity::Unread(ErrorKind::NotFound) => {
@@ -181,9 +206,10 @@ pub fn hint(alloc: Global, file: &str, oddity: Oddity) -> Result<String, AllocEr
     }
 }
 
-#[tactic(auto, unfolding(crate::specs::Hints::hint_of))]
+/// The line about an input that looks like this, whose name is this word.
 fn look_hint(alloc: Global, file: &str, lookalike: Lookalike) -> Result<String, AllocError>
-    ensures { IfOk result (λ line. string_bytes line ≡ hint_of file.now (Looks lookalike)) }
+    ensures { IfOk result (λ line. string_bytes line ≡ codes "mvt: it looks like "
+        ++ (name_of lookalike ++ remedy (command_of lookalike) file.now (part_of lookalike))) }
 {
     let name = name(lookalike);
     let part = part(lookalike);

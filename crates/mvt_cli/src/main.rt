@@ -7,18 +7,16 @@ ghost use Rattle.mvt_tasks.specs.Checks.{Prints};
 ghost use Rattle.mvt_cli.specs.Hints.{hint_of};
 
 mod hints;
-mod laws;
 mod run;
-mod words;
 
-use hints::{Oddity, Watched, WatchedFolder, hint};
+use hints::{Oddity, Watched, WatchedFolder, hint, is_told};
 use mvt_io::{Host, Sink};
 use mvt_tasks::{Disk, print};
+use mvt_words::arguments;
 use run::{refuse, run};
 use std::alloc::Global;
 use std::io::IsTerminal;
 use std::process::ExitCode;
-use words::arguments;
 
 fn main(rt: HostRuntime) -> ExitCode {
     let mut reader = Watched::new(Host::new(rt.stdin()));
@@ -36,7 +34,7 @@ fn main(rt: HostRuntime) -> ExitCode {
         ),
         Err(refusal) => refuse(refusal, &mut errors),
     };
-    if rt.stderr().is_terminal() && (status == 1 || status == 3) {
+    if is_told(status, rt.stderr().is_terminal()) {
         match folder.noted() {
             Some((name, oddity)) => tell(rt.alloc(), name.as_str(), *oddity, &mut errors),
             None => tell_of_input(rt.alloc(), reader.oddity(), &mut errors),

@@ -9,13 +9,13 @@ ghost use Rattle.mvt_tasks.specs.Checks.{Prints, SaysOf, TellsFiles, run_state};
 ghost use Rattle.mvt_tasks.specs.Failures.{EndsFailed, FailsReading, line_of, status_of};
 ghost use Rattle.mvt_tasks.specs.Output.{GivesReply, HasOutput, IsGiven, IsReplyTo, PutOut, PutsText, ReadsNoFurther};
 ghost use Rattle.mvt_tasks.specs.Visits.{OneAtATime};
-ghost use Rattle.mvt_cli.specs.Words.{task_in, faults_in, files_in};
-ghost use Rattle.mvt_cli.specs.Refused.{EndsWith, IsUsage, advice_on, usage_text};
+ghost use Rattle.mvt_words.specs.Words.{task_in, faults_in, files_in};
+ghost use Rattle.mvt_words.specs.Refused.{EndsWith, IsUsage, advice_on, usage_text};
 
-use crate::words::{Asked, Refusal, read_words};
 use mvt_base::LIMIT;
 use mvt_io::{Sink, Source};
 use mvt_tasks::{Failure, Folder, print, run_task, tell_files};
+use mvt_words::{Asked, Refusal, read_words};
 use std::alloc::Global;
 
 /// Runs the program on the words of its command line, the first of which is its name, and answers

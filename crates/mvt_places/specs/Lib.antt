@@ -4,6 +4,7 @@ pub mod Lookalikes
 pub mod Messages
 pub mod Pens
 pub mod Places
+pub mod Quoting
 pub mod Sentences
 pub mod Shown
 pub mod Spans

@@ -7,7 +7,7 @@ use Rattle.mvt_tasks.specs.declared.reply.Reply.{Reply}
 use Rattle.mvt_tasks.specs.declared.task.Task.{Task}
 use Rattle.mvt_tasks.specs.Checks.{Prints}
 use Rattle.mvt_tasks.specs.Output.{GivesReply, HasOutput, IsReplyTo, PutOut}
-use Rattle.mvt_cli.specs.Words.{task_in}
+use Rattle.mvt_words.specs.Words.{task_in}
 use Rattle.mvt_cli.proofs.run.run.Goals as goal
 
 pub returns-in-Err-clause-files : goal.returns-in-Err-clause-files

@@ -1,5 +1,0 @@
-use Rattle.mvt_cli.proofs.Lines.{plain_taken}
-use Rattle.mvt_cli.proofs.laws.plain_lines.Goals as goal
-
-pub returns : goal.returns
-returns c = plain_taken

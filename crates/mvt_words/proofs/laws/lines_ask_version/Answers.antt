@@ -1,0 +1,12 @@
+use Rattle.std.proofs.Common.{refl}
+use Rattle.clap.proofs.OnLiterals.{clap_on_literals}
+use Rattle.mvt_words.specs.Words.{mvt, bare_mvt, extract_app, files_app}
+use Rattle.mvt_words.proofs.laws.lines_ask_version.Goals as goal
+
+pub returns : goal.returns
+unfolding clap_on_literals mvt bare_mvt extract_app files_app
+returns c = record {
+  version = λ name. refl;
+  short = λ name. refl;
+  before = λ name. refl;
+}
