@@ -42,6 +42,8 @@ MARKS = [
     ("Pdf", 0, b"%PDF-"),
     ("OsmPbf", 4, b"\n\tOSMHeader"),
 ]
+# What is said last of a tile that can be mended.
+REMEDY = "mvt mend mends this."
 # How a sentence calls them.
 WORDS = {
     "Gzip": "gzip",
@@ -332,11 +334,14 @@ def place_line(place):
     return f"bytes {place.start} to {place.end - 1}{place.what}"
 
 
-def failure(tile, told, lines, sentences):
-    """Why what is said of a refused tile is wrong, if it is."""
+def failure(tile, told, lines, sentences, is_mended):
+    """Why what is said of a refused tile is wrong, if it is; `is_mended` says that `mvt mend` mends it."""
     fault = fault_of(told)
     if not fault:
         return f"no line of a fault: {told!r}"
+    if (lines[-1] == REMEDY) != is_mended:
+        return f"{lines[-1]!r}, though it is {'' if is_mended else 'not '}mended"
+    lines = lines[:-1] if is_mended else lines
     tile = tile[: LIMIT + 1]
     place = find(tile, fault)
     wanted = [place_line(place)] if fault.layer is None else [holders_line(fault, place), place_line(place)]

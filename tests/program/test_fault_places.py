@@ -28,8 +28,10 @@ def failure(run, tile):
     if status == 0:
         return None, None
     *lines, rest = output.decode().split("\n")
-    why = f"status {status}" if status != 1 or rest else places.failure(tile, told, lines, SENTENCES)
-    return why, told.rpartition(" ")[2].strip()
+    cause = told.rpartition(" ")[2].strip()
+    is_mended = cause in ("ZeroSegment", "FirstRing") and run("mend", tile=tile).status == 0
+    why = f"status {status}" if status != 1 or rest else places.failure(tile, told, lines, SENTENCES, is_mended)
+    return why, cause
 
 
 @pytest.mark.parametrize("path", sorted((TILES / "broken").glob("*.mvt*")), ids=lambda it: it.name)

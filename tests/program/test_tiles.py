@@ -114,7 +114,7 @@ def test_broken_case(name, line):
     assert case.said["fault"] == f"{line}\n"
     place = places.find(case.tile[: places.LIMIT + 1], places.fault_of(case.said["fault"]))
     assert case.said["place"] == f"{place.start} {place.end}\n"
-    assert not places.failure(case.tile, case.said["fault"], case.said["explain"].split("\n")[:-1], SENTENCES)
+    assert not places.failure(case.tile, case.said["fault"], case.said["explain"].split("\n")[:-1], SENTENCES, "mended" in case.said)
     mended = {"20-ZeroSegment": canonical([]), "22-FirstRing": canonical([TRIANGLE])}
     assert ("mended" in case.said) == (name in mended)
     if name in mended:

@@ -7,6 +7,8 @@ use Rattle.mvt_io.specs.Counts.{counted}
 use Rattle.mvt_io.specs.States.{Inflow, Outflow}
 use Rattle.mvt_io.specs.Transfers.{TakesAtMost}
 use Rattle.serde_json.specs.Written.{compact_text}
+use Rattle.mvt_feature.specs.declared.cause.Cause.{Cause}
+use Rattle.mvt_feature.specs.declared.cause.Cause.TheVariants.{ZeroSegment, FirstRing}
 use Rattle.mvt_tile.specs.declared.fault.Fault.{Fault}
 use Rattle.mvt_tile_value.specs.declared.tile.Tile.{Tile}
 use Rattle.mvt_tile_value.specs.CanonicalTiles.{canonical}
@@ -110,10 +112,21 @@ fault_reply fault = refused (fault_line fault ++ codes "\n")
 abbrev pub IsPrinted : ℕ → (Tile → Reply) → List ℕ → Reply → Type 0
 IsPrinted limit of_tile input reply = IsJudged limit of_tile fault_reply input reply
 
+-- says that a command mends the bytes, where they keep every rule then
+abbrev pub mend_line : Option Fault → List ℕ
+mend_line None = codes "mvt mend mends this.\n"
+mend_line (Some fault) = []
+
+-- what can be done about the two rules that `mend` mends
+abbrev pub remedy : ℕ → List ℕ → Cause → List ℕ
+remedy limit bytes ZeroSegment = mend_line (fault_within limit (mended bytes))
+remedy limit bytes FirstRing = mend_line (fault_within limit (mended bytes))
+remedy limit bytes cause = []
+
 -- what is said of a fault of these bytes, and its line
 abbrev pub told_why : ℕ → List ℕ → Fault → Reply
 told_why limit bytes fault = record {
-  output = Some (explanation limit bytes fault);
+  output = Some (explanation limit bytes fault ++ remedy limit bytes fault.cause);
   error_line = Some (fault_line fault ++ codes "\n");
   changes = None;
   has_findings = false;

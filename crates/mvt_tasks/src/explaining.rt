@@ -3,7 +3,9 @@ ghost use Rattle.std.specs.Prelude.{◌≡◌, ◌+◌, IfOk, IfErr, IfSome, OnO
 ghost use Rattle.mvt_io.specs.States.{NoneFailed};
 ghost use Rattle.mvt_io.specs.Transfers.{Reads, TakesAtMost};
 ghost use Rattle.mvt_tasks.specs.Failures.{FailsReading};
-ghost use Rattle.mvt_tasks.specs.Output.{IsExplained, IsReply, HasOutput, told_why};
+ghost use Rattle.mvt_mend.specs.Tiles.{mended};
+ghost use Rattle.mvt_tile.specs.TileRules.{fault_within};
+ghost use Rattle.mvt_tasks.specs.Output.{IsExplained, IsReply, HasOutput, mend_line, remedy as the_remedy, told_why};
 
 use crate::checking::reported;
 use crate::failure::Failure;
@@ -12,11 +14,12 @@ use crate::reply::Reply;
 use crate::task::Task;
 use mvt_base::{Items, LIMIT};
 use mvt_io::{Source, read_up_to};
+use mvt_mend::{MendError, mend_tile};
 use mvt_places::explanation_text;
-use mvt_tile::{DecodeError, Fault, survey_tile};
+use mvt_tile::{Cause, DecodeError, Fault, survey_tile};
 use std::alloc::Global;
 
-/// Checks a tile, and reports on it, or explains why it is refused.
+/// Checks a tile, and reports on it, or explains why it is refused, and says where `mend` mends it.
 pub fn explain<R: Source>(alloc: Global, reader: &mut R) -> Result<Reply, Failure>
     ensures reply { IfOk result (λ reply. IfSome (R.state reader.old).left
         (λ input. IsReply LIMIT Task.Explain input reply)) }
@@ -49,11 +52,36 @@ fn why(alloc: Global, input: &[u8], fault: &Fault) -> Result<Reply, Failure>
     ensures reply { IfOk result (λ reply. reply ≡ told_why LIMIT input.now fault.now) }
     ensures failed { IfErr result (λ failure. failure ≡ Failure.Memory) }
 {
-    let text = explanation_text(alloc, input, fault)?;
+    let mut text = explanation_text(alloc, input, fault)?;
+    text.push_str(remedy(alloc, input, fault.cause)?)?;
     Ok(Reply {
         output: Some(Items::new(text.into_bytes())),
         error_line: Some(fault_printed(alloc, fault)?),
         changes: None,
         has_findings: false,
     })
+}
+
+/// The line on what can be done about a fault with this cause, if there is one.
+fn remedy(alloc: Global, input: &[u8], cause: Cause) -> Result<&'static str, Failure>
+    ensures line { IfOk result (λ line. line.now ≡ the_remedy LIMIT input.now cause) }
+    ensures failed { IfErr result (λ failure. failure ≡ Failure.Memory) }
+{
+    match cause {
+        Cause::ZeroSegment | Cause::FirstRing => if_mended(alloc, input),
+        _ => Ok(""),
+    }
+}
+
+/// The line that `mend` mends a refused tile, where it does.
+fn if_mended(alloc: Global, input: &[u8]) -> Result<&'static str, Failure>
+    ensures line { IfOk result (λ line. line.now
+        ≡ mend_line (fault_within LIMIT (mended input.now))) }
+    ensures failed { IfErr result (λ failure. failure ≡ Failure.Memory) }
+{
+    match mend_tile(alloc, input) {
+        Ok(_) => Ok("mvt mend mends this.\n"),
+        Err(MendError::Refused(..)) => Ok(""),
+        Err(MendError::Memory) => Err(Failure::Memory),
+    }
 }
