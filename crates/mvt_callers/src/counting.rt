@@ -9,6 +9,10 @@ use mvt_tile::{DecodeError, Item, LIMIT, decode};
 use std::alloc::Global;
 
 /// How many features the layer of a name has, if there is one.
+///
+/// # Errors
+///
+/// The first broken rule of bytes that are no tile. When memory runs out.
 pub fn count_features(alloc: Global, bytes: &[u8], name: &str) -> Result<Option<usize>, DecodeError>
     ensures count { IfOk result (HasCount LIMIT bytes.now name.now) }
     ensures fault { IfErr result (λ error. ReportsAtEnd error (fault_within LIMIT bytes.now)) }

@@ -185,6 +185,10 @@ pub fn is_told(status: u8, is_terminal: bool) -> bool
 
 /// The line about an odd input, or nothing if there is nothing to add; `file` is the input's name,
 /// or FILE where it has none. In its commands the name is a word of a shell.
+///
+/// # Errors
+///
+/// When memory runs out.
 #[tactic(auto, unfolding(crate::specs::Hints::hint_of))]
 pub fn hint(alloc: Global, file: &str, oddity: Oddity) -> Result<String, AllocError>
     ensures { IfOk result (λ line. string_bytes line ≡ hint_of file.now oddity) }

@@ -46,6 +46,7 @@ impl<T> Model for Host<T> {
 }
 
 impl<T> Host<T> {
+    /// A stream of the system's that is read or written so.
     pub fn new(inner: T) -> Self
         ensures { result ≡ record {
           inner = inner;

@@ -58,6 +58,10 @@ impl MemorySink {
     /// other call takes memory. The writes numbered `fails_from` or later, from 0, fail with kind
     /// `Other`, as do writes that aren't empty once the room is used up, and each flush if
     /// `flush_fails`.
+    ///
+    /// # Errors
+    ///
+    /// When memory runs out for the room.
     pub fn new(
         alloc: Global,
         room: usize,

@@ -10,6 +10,10 @@ const LARGE_PIECE: usize = 65_536;
 
 /// Appends the bytes that the reader has left, up to a bound. It is a function of its own, since
 /// its large piece costs time at its entry.
+///
+/// # Errors
+///
+/// When memory runs out, or a read fails, with the reader's kind.
 #[inline(never)]
 pub fn read_rest<R: Source>(
     reader: &mut R,

@@ -21,6 +21,10 @@ use std::fmt::Write;
 
 /// A fault explained in a few lines, each with a line feed: the layer and the feature, the place
 /// and what stands there, the broken rule in plain words, and the bytes around the place.
+///
+/// # Errors
+///
+/// When memory runs out.
 pub fn explanation_text(alloc: Global, input: &[u8], fault: &Fault) -> Result<String, ViewError>
     ensures { IfOk result (λ text. string_bytes text ≡ explanation LIMIT input.now fault.now) }
 {

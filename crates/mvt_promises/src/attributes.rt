@@ -9,6 +9,10 @@ use mvt_base::Text;
 use std::alloc::Global;
 
 /// A value's place is that of its own kind: the number 5 of one kind isn't that of another.
+///
+/// # Errors
+///
+/// When memory runs out, or a full pool meets a value that is new.
 pub fn place_value<'a>(
     values: &mut ValuePool<'a>,
     attribute: &'a Attribute,
@@ -19,6 +23,10 @@ pub fn place_value<'a>(
 }
 
 /// Keys and values stand in order of first use.
+///
+/// # Errors
+///
+/// When memory runs out, or a full pool meets an entry that is new.
 pub fn tags_of<'a>(
     alloc: Global,
     attributes: &'a [Attribute],
@@ -33,6 +41,10 @@ pub fn tags_of<'a>(
 }
 
 /// Tags name all their attributes.
+///
+/// # Errors
+///
+/// The first rule that the tags break, with its index into them. When memory runs out.
 pub fn resolve(
     alloc: Global,
     keys: &[Text],

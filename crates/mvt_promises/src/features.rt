@@ -20,6 +20,10 @@ use std::alloc::{AllocError, Global};
 
 /// Of a field that stands several times the last counts; packed integers in several fields are
 /// joined, and are no fault.
+///
+/// # Errors
+///
+/// The first rule that the payload breaks. When memory runs out.
 pub fn read_feature(
     alloc: Global,
     payload: &[u8],
@@ -37,6 +41,10 @@ pub fn read_feature(
 }
 
 /// A canonical payload has the type, also where it is unknown.
+///
+/// # Errors
+///
+/// When memory runs out.
 pub fn append_drawn_feature(
     id: Option<u64>,
     tags: &[u32],

@@ -11,6 +11,10 @@ use mvt_message::{Item, LIMIT, LayerWriter, MessageError};
 use std::alloc::{AllocError, Global};
 
 /// The first broken rule is told with its own cause; those of values stand before those of features.
+///
+/// # Errors
+///
+/// The first rule that the payload breaks. When memory runs out.
 pub fn read_item(
     alloc: Global,
     payload: &[u8],
@@ -26,6 +30,10 @@ pub fn read_item(
 }
 
 /// A canonical layer has its extent, also where it is the usual one.
+///
+/// # Errors
+///
+/// When memory runs out.
 pub fn layer_payload(
     alloc: Global,
     writer: &LayerWriter<'_>,

@@ -131,6 +131,10 @@ impl Builder {
     }
 
     /// Begins a layer of version 2, and ends the one before.
+    ///
+    /// # Errors
+    ///
+    /// `Memory`. Behind an error each call gives that error.
     pub fn layer(&mut self, alloc: Global, name: &[u8], extent: u32) -> Result<(), BuildError>
         ensures { IsCalled self.old self.new result (spec.begin_layer name.now extent) }
     {
@@ -140,6 +144,10 @@ impl Builder {
     }
 
     /// Adds a layer of another version, given by its bytes.
+    ///
+    /// # Errors
+    ///
+    /// `OutOfTurn` for version 2; `Memory`. Behind an error each call gives that error.
     pub fn foreign(&mut self, version: u32, bytes: &[u8]) -> Result<(), BuildError>
         ensures { IsCalled self.old self.new result (spec.add_foreign version bytes.now) }
     {
@@ -149,6 +157,10 @@ impl Builder {
     }
 
     /// The index of a key of the layer, which is added if it is new.
+    ///
+    /// # Errors
+    ///
+    /// `OutOfTurn` where no layer has begun; `Memory`. Behind an error each call gives that error.
     pub fn key(&mut self, key: &[u8]) -> Result<u32, BuildError>
         ensures called { IsCalled self.old self.new result (spec.add_key key.now) }
         ensures index { (told : spec.Told) → HasTold self.old told → IfOk result (λ index.
@@ -160,6 +172,10 @@ impl Builder {
     }
 
     /// The index of a value of the layer, which is added if it is new.
+    ///
+    /// # Errors
+    ///
+    /// `OutOfTurn` where no layer has begun; `Memory`. Behind an error each call gives that error.
     pub fn value(&mut self, value: &AnyValue<'_>) -> Result<u32, BuildError>
         ensures called { IsCalled self.old self.new result (spec.add_value (given_of value.now)) }
         ensures index { (told : spec.Told) → HasTold self.old told → IfOk result (λ index.
@@ -172,6 +188,10 @@ impl Builder {
     }
 
     /// Begins a feature of the layer, and ends the one before.
+    ///
+    /// # Errors
+    ///
+    /// `OutOfTurn` where no layer has begun; `Memory`. Behind an error each call gives that error.
     pub fn feature(&mut self, kind: u32) -> Result<(), BuildError>
         ensures { IsCalled self.old self.new result (spec.begin_feature kind) }
     {
@@ -181,6 +201,11 @@ impl Builder {
     }
 
     /// Gives the feature its id.
+    ///
+    /// # Errors
+    ///
+    /// `OutOfTurn` where no feature has begun; `Memory`. Behind an error each call gives that
+    /// error.
     pub fn id(&mut self, id: u64) -> Result<(), BuildError>
         ensures { IsCalled self.old self.new result (spec.add_id id) }
     {
@@ -190,6 +215,11 @@ impl Builder {
     }
 
     /// Adds an attribute to the feature by the indices of its key and its value.
+    ///
+    /// # Errors
+    ///
+    /// `OutOfTurn` where no feature has begun; `Memory`. Behind an error each call gives that
+    /// error.
     pub fn tag_at(&mut self, key: u32, value: u32) -> Result<(), BuildError>
         ensures { IsCalled self.old self.new result (spec.add_tag_at key value) }
     {
@@ -199,6 +229,11 @@ impl Builder {
     }
 
     /// Adds an attribute to the feature.
+    ///
+    /// # Errors
+    ///
+    /// `OutOfTurn` where no feature has begun; `Memory`. Behind an error each call gives that
+    /// error.
     pub fn tag(&mut self, key: &[u8], value: &AnyValue<'_>) -> Result<(), BuildError>
         ensures { IsCalled self.old self.new result (spec.add_tag key.now (given_of value.now)) }
     {
@@ -208,6 +243,11 @@ impl Builder {
     }
 
     /// Begins a line of a feature of lines.
+    ///
+    /// # Errors
+    ///
+    /// `OutOfTurn` where no feature of lines has begun; `Memory`. Behind an error each call gives
+    /// that error.
     pub fn line(&mut self) -> Result<(), BuildError>
         ensures { IsCalled self.old self.new result (spec.begin_part 2 false) }
     {
@@ -215,6 +255,11 @@ impl Builder {
     }
 
     /// Begins a ring of a feature of polygons. An exterior ring begins a polygon.
+    ///
+    /// # Errors
+    ///
+    /// `OutOfTurn` where no feature of polygons has begun; `Memory`. Behind an error each call
+    /// gives that error.
     pub fn ring(&mut self, exterior: bool) -> Result<(), BuildError>
         ensures { IsCalled self.old self.new result (spec.begin_part 3 exterior) }
     {
@@ -230,6 +275,11 @@ impl Builder {
     }
 
     /// Adds points to the line or the ring that began last, or to a feature of points.
+    ///
+    /// # Errors
+    ///
+    /// `OutOfTurn` where no part, and no feature of points, has begun; `Memory`. Behind an error
+    /// each call gives that error.
     pub fn points(&mut self, points: &[PointRow]) -> Result<(), BuildError>
         ensures { IsCalled self.old self.new result (spec.add_points points.now) }
     {
@@ -240,6 +290,11 @@ impl Builder {
     }
 
     /// Adds integers to a feature of unknown geometry.
+    ///
+    /// # Errors
+    ///
+    /// `OutOfTurn` where no feature of unknown geometry has begun; `Memory`. Behind an error each
+    /// call gives that error.
     pub fn integers(&mut self, integers: &[u32]) -> Result<(), BuildError>
         ensures { IsCalled self.old self.new result (spec.add_integers integers.now) }
     {
@@ -250,6 +305,11 @@ impl Builder {
 
     /// Adds a whole feature, and ends the one before. Its tags are indices of keys and values; its
     /// parts are spans of these points. It isn't due if a part reaches beyond the points.
+    ///
+    /// # Errors
+    ///
+    /// `OutOfTurn` where no layer has begun or a part reaches beyond the points; `Memory`. Behind
+    /// an error each call gives that error.
     pub fn add(
         &mut self,
         kind: u32,
@@ -267,6 +327,11 @@ impl Builder {
     }
 
     /// Removes the feature that began last and hasn't ended.
+    ///
+    /// # Errors
+    ///
+    /// `OutOfTurn` where no feature has begun; `Memory`. Behind an error each call gives that
+    /// error.
     pub fn drop_feature(&mut self) -> Result<(), BuildError>
         ensures { IsCalled self.old self.new result spec.drop_feature }
     {
@@ -277,6 +342,10 @@ impl Builder {
     }
 
     /// Ends the layer, and copies the rows of the tile so far.
+    ///
+    /// # Errors
+    ///
+    /// `Memory`. Behind an error each call gives that error.
     pub fn rows(&mut self, alloc: Global) -> Result<Table, BuildError>
         ensures called { IsCalled self.old self.new result (λ told. Some (spec.ended told)) }
         ensures rows { (told : spec.Told) → HasTold self.old told

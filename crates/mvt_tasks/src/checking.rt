@@ -17,6 +17,10 @@ use mvt_view::survey_text;
 use std::alloc::Global;
 
 /// Checks a tile, and reports on it.
+///
+/// # Errors
+///
+/// `Read` when a read fails; `Memory`. A refused tile is no error: its reply has the fault's line.
 pub fn check<R: Source>(alloc: Global, reader: &mut R) -> Result<Reply, Failure>
     ensures reply { IfOk result (λ reply. IfSome (R.state reader.old).left
         (λ input. IsReply LIMIT Task.Check input reply)) }

@@ -20,6 +20,10 @@ use mvt_tile::{Cause, DecodeError, Fault, survey_tile};
 use std::alloc::Global;
 
 /// Checks a tile, and reports on it, or explains why it is refused, and says where `mend` mends it.
+///
+/// # Errors
+///
+/// `Read` when a read fails; `Memory`. A refused tile is no error: its reply has the fault's line.
 pub fn explain<R: Source>(alloc: Global, reader: &mut R) -> Result<Reply, Failure>
     ensures reply { IfOk result (λ reply. IfSome (R.state reader.old).left
         (λ input. IsReply LIMIT Task.Explain input reply)) }

@@ -19,6 +19,10 @@ use std::alloc::{AllocError, Global};
 
 /// Reads a tile, and makes the canonical bytes of its named layers. It reads no further after a
 /// fault.
+///
+/// # Errors
+///
+/// `Read` when a read fails; `Memory`. A refused tile is no error: its reply has the fault's line.
 pub fn extract_layers<R: Source>(
     alloc: Global,
     names: &Names,

@@ -18,6 +18,10 @@ use mvt_view::lint_text;
 use std::alloc::Global;
 
 /// Reads a tile, and makes a line for each finding. It reads no further after a fault.
+///
+/// # Errors
+///
+/// `Read` when a read fails; `Memory`. A refused tile is no error: its reply has the fault's line.
 pub fn lint_tile<R: Source>(alloc: Global, reader: &mut R) -> Result<Reply, Failure>
     ensures reply { IfOk result
         (λ reply. IfSome (R.state reader.old).left

@@ -15,6 +15,10 @@ use mvt_view::{FieldsText, fields_text};
 use std::alloc::Global;
 
 /// Lists the top-level fields of an input.
+///
+/// # Errors
+///
+/// `Read` when a read fails; `Memory`. A refused tile is no error: its reply has the fault's line.
 pub fn list_fields<R: Source>(alloc: Global, reader: &mut R) -> Result<Reply, Failure>
     ensures reply { IfOk result (λ reply. IfSome (R.state reader.old).left
         (λ input. IsReply LIMIT Task.Fields input reply)) }

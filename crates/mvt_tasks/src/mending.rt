@@ -15,6 +15,10 @@ use mvt_mend::{Change, MendError, MendedTile, change_text, mend_tile};
 use std::alloc::{AllocError, Global};
 
 /// Reads a tile, and makes the canonical bytes of it mended, and a line for each change.
+///
+/// # Errors
+///
+/// `Read` when a read fails; `Memory`. A refused tile is no error: its reply has the fault's line.
 pub fn mend<R: Source>(alloc: Global, reader: &mut R) -> Result<Reply, Failure>
     ensures reply { IfOk result (λ reply. IfSome (R.state reader.old).left
         (λ input. IsReply LIMIT Task.Mend input reply)) }

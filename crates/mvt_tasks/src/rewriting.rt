@@ -15,6 +15,10 @@ use mvt_tile::rewrite_tile;
 use std::alloc::Global;
 
 /// Reads a tile, and makes its canonical bytes. It reads no further after a fault.
+///
+/// # Errors
+///
+/// `Read` when a read fails; `Memory`. A refused tile is no error: its reply has the fault's line.
 pub fn rewrite<R: Source>(alloc: Global, reader: &mut R) -> Result<Reply, Failure>
     ensures reply { IfOk result
         (λ reply. IfSome (R.state reader.old).left

@@ -91,6 +91,10 @@ impl Tally {
     }
 
     /// The summary of this many files, with its line feed; nothing for less than two.
+    ///
+    /// # Errors
+    ///
+    /// When memory runs out.
     #[tactic(auto, unfolding(crate::specs::Checks::summary))]
     pub fn line(self, alloc: Global, all: usize) -> Result<String, AllocError>
         ensures { IfOk result (λ line. string_bytes line ≡ summary all self) }

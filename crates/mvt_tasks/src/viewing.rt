@@ -23,6 +23,10 @@ pub enum View {
 }
 
 /// Reads a tile, and makes its text. It reads no further after a fault.
+///
+/// # Errors
+///
+/// `Read` when a read fails; `Memory`. A refused tile is no error: its reply has the fault's line.
 pub fn view_tile<R: Source>(alloc: Global, view: View, reader: &mut R) -> Result<Reply, Failure>
     ensures reply { IfOk result
         (λ reply. IfSome (R.state reader.old).left

@@ -25,6 +25,10 @@ pub fn is_valid(tile: &Tile) -> bool
 }
 
 /// The same, in the time of sorting the names of the layers and the keys of each feature.
+///
+/// # Errors
+///
+/// When memory runs out.
 pub fn validate(alloc: Global, tile: &Tile) -> Result<bool, AllocError>
     ensures { IfOk result (λ valid. IsTrue valid ↔ Valid tile.now) }
 {
@@ -33,6 +37,10 @@ pub fn validate(alloc: Global, tile: &Tile) -> Result<bool, AllocError>
 
 /// The index of the first item that keeps a tile from being written: it can't be written itself, or
 /// has the name of an earlier layer. Takes as long as [`validate`].
+///
+/// # Errors
+///
+/// When memory runs out.
 pub fn first_invalid(alloc: Global, tile: &Tile) -> Result<Option<usize>, AllocError>
     ensures { IfOk result (λ found. MatchOption found (Valid tile.now)
         (IsFirstInvalid tile.now.items)) }

@@ -61,6 +61,10 @@ fn encode_more(
 }
 
 /// The same for an item whose canonical payload this is.
+///
+/// # Errors
+///
+/// When memory runs out.
 pub fn encode_payload(out: Option<Vec<u8>>, payload: &[u8]) -> Result<Option<Vec<u8>>, AllocError>
     ensures { (items : List Item) (item : Item) → AreEncoded LIMIT items out
         → payload.now ≡ canonical_item item

@@ -15,6 +15,10 @@ use std::alloc::{AllocError, Global};
 
 /// What is found of a tile that viewers stumble over, in the order of its layers, features and
 /// attributes. Layers of other versions are passed over.
+///
+/// # Errors
+///
+/// When memory runs out.
 pub fn lint(alloc: Global, tile: &Tile) -> Result<Vec<Finding>, AllocError>
     ensures { IfOk result (λ findings. findings.items ≡ findings_of tile.now) }
 {

@@ -14,6 +14,10 @@ use mvt_message::Item;
 use std::alloc::{AllocError, Global};
 
 /// What is noted of a tile, in the order of its layers, features and rings.
+///
+/// # Errors
+///
+/// When memory runs out.
 pub fn notes(alloc: Global, tile: &Tile) -> Result<Vec<Note>, AllocError>
     ensures { IfOk result (λ notes. notes.items ≡ notes_of tile.now) }
 {

@@ -265,6 +265,10 @@ impl<'a> SurveyBuilder<'a> {
     }
 
     /// The survey of a tile with this many layers.
+    ///
+    /// # Errors
+    ///
+    /// When memory runs out.
     pub fn into_survey(self, layers: u32) -> Result<Survey, AllocError>
         ensures { (input : List ℕ) (tile : Tile) → AreFound LIMIT input self.entry tile.items
             → length tile.items ≡ layers

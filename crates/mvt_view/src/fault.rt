@@ -8,6 +8,10 @@ use std::alloc::{AllocError, Global};
 use std::fmt::Write;
 
 /// The line of a fault, without a line end: `layer L feature F at A: N Name`.
+///
+/// # Errors
+///
+/// When memory runs out.
 #[tactic(auto, unfolding(crate::specs::FaultLines::fault_line))]
 pub fn fault_text(alloc: Global, fault: &Fault) -> Result<String, ViewError>
     ensures { IfOk result (λ text. string_bytes text ≡ fault_line fault.now) }

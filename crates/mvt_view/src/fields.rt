@@ -23,6 +23,10 @@ pub struct FieldsText {
 
 /// Lists the top-level fields of the first `LIMIT` bytes of an input. A longer input is at fault
 /// where they end.
+///
+/// # Errors
+///
+/// When memory runs out.
 pub fn fields_text(alloc: Global, input: &[u8]) -> Result<FieldsText, ViewError>
     ensures { IfOk result (IsFieldsText LIMIT input.now) }
 {

@@ -16,6 +16,7 @@ pub enum NoteKind {
 }
 
 impl NoteKind {
+    /// The kind of a note.
     pub fn of(note: Note) -> Self
         ensures { result ≡ kind_of_note note }
     {
@@ -45,6 +46,7 @@ impl NoteKind {
         })
     }
 
+    /// Its number in `mvt.h`.
     pub fn number(self) -> u32
         ensures { result ≡ note_number self }
     {
@@ -90,6 +92,7 @@ pub enum FindingKind {
 }
 
 impl FindingKind {
+    /// The kind of a finding.
     pub fn of(finding: Finding) -> Self
         ensures { result ≡ kind_of_finding finding }
     {
@@ -119,6 +122,7 @@ impl FindingKind {
         })
     }
 
+    /// Its number in `mvt.h`.
     pub fn number(self) -> u32
         ensures { result ≡ finding_number self }
     {

@@ -9,6 +9,10 @@ use std::alloc::{AllocError, Global};
 use std::fmt::Write;
 
 /// A line for each finding, which ends in a line feed.
+///
+/// # Errors
+///
+/// When memory runs out.
 pub fn lint_text(alloc: Global, findings: &[Finding]) -> Result<String, ViewError>
     ensures { IfOk result (λ text. string_bytes text ≡ flat_map finding_line findings.now) }
 {

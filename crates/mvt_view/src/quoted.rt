@@ -16,6 +16,10 @@ const SHORT: usize = 256;
 const BLOCK: usize = 32;
 
 /// Appends a text as a string of JSON. After an error the text is as it was, or longer.
+///
+/// # Errors
+///
+/// When memory runs out.
 pub fn push_quoted(text: &mut String, plain: &str) -> Result<(), AllocError>
     ensures ok { OnOk result (string_bytes text.new ≡ string_bytes text.old ++ quoted plain.now) }
     ensures left { OnErr result (Extends (string_bytes text.old) (string_bytes text.new)) }

@@ -13,6 +13,10 @@ use std::fmt::Write;
 /// then a line for each note. Each ends with a line feed.
 ///
 /// Layers of every version are counted, but only features of version 2.
+///
+/// # Errors
+///
+/// When memory runs out.
 pub fn report_text(alloc: Global, tile: &Tile, canonical: bool) -> Result<String, ViewError>
     ensures { IfOk result (λ text. string_bytes text ≡ report_lines tile.now canonical) }
 {
@@ -26,6 +30,10 @@ pub fn report_text(alloc: Global, tile: &Tile, canonical: bool) -> Result<String
 }
 
 /// The same for a tile that was surveyed.
+///
+/// # Errors
+///
+/// When memory runs out.
 pub fn survey_text(alloc: Global, survey: &Survey) -> Result<String, ViewError>
     ensures { IfOk result (λ text. string_bytes text ≡ survey_lines survey.now) }
 {

@@ -22,6 +22,10 @@ use std::fmt::Write;
 ///
 /// Points are dots, lines are strokes, and polygons are filled by the even-odd rule. Each layer has
 /// the colour of its index in the tile. Unknown geometry and layers of other versions aren't drawn.
+///
+/// # Errors
+///
+/// When memory runs out.
 #[tactic(auto, unfolding(crate::specs::Svg::svg, crate::specs::Svg::head_svg))]
 pub fn svg_text(alloc: Global, tile: &Tile) -> Result<String, ViewError>
     ensures { IfOk result (λ text. string_bytes text ≡ svg tile.now) }

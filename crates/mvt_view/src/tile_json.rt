@@ -19,6 +19,10 @@ use std::alloc::Global;
 /// The JSON of a tile as a tree.
 ///
 /// The tree takes twenty times the memory of the tile and more; [`json_text`] makes none.
+///
+/// # Errors
+///
+/// When memory runs out.
 pub fn json_of(alloc: Global, tile: &Tile) -> Result<Value, ViewError>
     ensures { IfOk result (λ value. view value ≡ json tile.now) }
 {
@@ -29,6 +33,10 @@ pub fn json_of(alloc: Global, tile: &Tile) -> Result<Value, ViewError>
 const FIRST_ROOM: usize = 128;
 
 /// The JSON of a tile as one line, without a line end.
+///
+/// # Errors
+///
+/// When memory runs out.
 pub fn json_text(alloc: Global, tile: &Tile) -> Result<String, ViewError>
     ensures { IfOk result (λ text. string_bytes text ≡ compact_text (json tile.now)) }
 {

@@ -41,6 +41,10 @@ impl From<AllocError> for Refusal {
 }
 
 /// The words that the program was started with.
+///
+/// # Errors
+///
+/// `Usage` for a word that isn't UTF-8; `Memory`.
 pub fn arguments(rt: &(impl Env + AllocGlobal)) -> Result<Vec<String>, Refusal>
     ensures { IfErr result (λ refusal. IsUsage refusal
         → usage_text refusal ≡ codes "error: an argument isn't UTF-8\n") }
@@ -171,6 +175,10 @@ fn refusal_of(kind: ErrorKind, text: Result<String, AllocError>) -> Refusal
 
 /// What the words ask for; the first word is the program's name. An empty list of words, and a line
 /// without a subcommand, ask for a check.
+///
+/// # Errors
+///
+/// `Usage` for words that are refused or ask for help, with what is to be printed; `Memory`.
 pub fn read_words(alloc: Global, words: &[String]) -> Result<Asked, Refusal>
     ensures task { IfOk result (λ asked. asked.task ≡ task_in (map string_bytes words.now)) }
     ensures files { IfOk result (λ asked. asked.files ≡ files_in (map string_bytes words.now)) }

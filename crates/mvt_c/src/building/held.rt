@@ -28,6 +28,10 @@ impl Model for HeldBuilder {
 
 impl HeldBuilder {
     /// A builder in memory of its own.
+    ///
+    /// # Errors
+    ///
+    /// When memory runs out.
     pub fn new(alloc: Global, making: Making) -> Result<HeldBuilder, AllocError>
         ensures { IfOk result (λ held. held.making ≡ making) }
     {

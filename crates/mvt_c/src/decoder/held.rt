@@ -30,6 +30,10 @@ impl Model for Held {
 
 impl Held {
     /// A decoder in memory of its own.
+    ///
+    /// # Errors
+    ///
+    /// When memory runs out.
     pub fn new(alloc: Global, decoder: Decoder) -> Result<Held, AllocError>
         ensures { IfOk result (λ held. held.decoder ≡ decoder) }
     {
