@@ -52,8 +52,8 @@ impl Scratch {
         &self.tags
     }
 
-    /// The integers of the feature that was read last; none of one that was judged straight from
-    /// its bytes.
+    /// The integers of the last feature whose fields were read into lists. One that is judged
+    /// straight from its bytes leaves those of a feature before it.
     pub fn integers(&self) -> &[u32]
         ensures { result.now ≡ integers_of self.now }
     {
