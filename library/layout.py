@@ -34,14 +34,14 @@ SIZES = {"uint8_t": 1, "uint32_t": 4, "int32_t": 4, "uint64_t": 8, "int64_t": 8,
 class Header:
     """What mvt.h declares, in its order.
 
-    `version` is that of the header, and `limit` is MVT_LIMIT. `enums` has the names and numbers of each enum by its name;
+    `version` is that of the header, `limit` is MVT_LIMIT and `head` MVT_HEAD. `enums` has the names and numbers of each enum by its name;
     `structures` the fields of each structure, `calls` the parameters and the answer of each call. A field or a parameter is
     its name, its type and how it points: "const", "mut" or None."""
 
     def __init__(self, text):
         self.version = re.search(r'^#define MVT_VERSION "(.*)"$', text, re.M)[1]
         text = re.sub(r"/\*.*?\*/", "", text, flags=re.S)
-        self.limit = int(re.search(r"^#define MVT_LIMIT (\d+)$", text, re.M)[1])
+        self.limit, self.head = (int(re.search(rf"^#define MVT_{name} (\d+)$", text, re.M)[1]) for name in ("LIMIT", "HEAD"))
         text = re.sub(r"^#.*$", "", text, flags=re.M).replace('extern "C" {', "")
         self.enums = {
             name: re.findall(r"(\w+) = (\d+)", names) for names, name in re.findall(r"typedef enum \{(.*?)\} (\w+);", text, re.S)
@@ -96,7 +96,8 @@ def _rust_call(header, name, parameters, answer):
 def rust(header):
     lines = ["//! What `mvt.h` declares, made of it by `library/layout.py`.", ""]
     lines += ["use std::os::raw::{c_char, c_int, c_void};", ""]
-    lines += ["/// A tile has at most so many bytes.", f"pub const LIMIT: usize = {header.limit};".replace("67108864", "67_108_864"), ""]
+    lines += ["/// A tile has at most so many bytes.", f"pub const LIMIT: usize = {header.limit:_};", ""]
+    lines += ["/// So many of its first bytes tell what an input looks like that is no tile.", f"pub const HEAD: usize = {header.head:_};", ""]
     for enum, names in header.enums.items():
         if enum in RUST_MODULES:
             lines += [f"/// {RUST_MODULES[enum]}", f"pub mod {enum.removeprefix('mvt_')} {{"]

@@ -25,6 +25,9 @@
 /* A tile has at most so many bytes, and so has what a call makes of one, but for texts. */
 #define MVT_LIMIT 67108864
 
+/* So many of its first bytes tell what an input looks like that is no tile (mvt_looks_like, mvt_explain). */
+#define MVT_HEAD 65536
+
 #ifdef __cplusplus
 extern "C" {
 #endif
@@ -518,11 +521,12 @@ typedef enum {
 } mvt_lookalike;
 
 /* What refused bytes look like, an mvt_lookalike, or 0 if they may be meant as a tile. Pass all of them, or at least the first
- * 65,536. Don't ask of an accepted tile, which may begin as something else does. */
+ * MVT_HEAD. Don't ask of an accepted tile, which may begin as something else does. */
 int mvt_looks_like(const uint8_t *bytes, size_t len);
 
-/* A fault in a sentence or two. Pass the refused bytes, or the first few of them: if they look like gzip, zlib, zstd, PNG,
- * SQLite, PMTiles, JSON or HTML, or else like something that mvt_lookalike names, the text says so. */
+/* A fault in a sentence or two. Pass the refused bytes, or the first MVT_HEAD of them, such as those that were fed to a decoder:
+ * if they look like gzip, zlib, zstd, PNG, SQLite, PMTiles, JSON or HTML, or else like something that mvt_lookalike names, the
+ * text says so. */
 const char *mvt_explain(const uint8_t *bytes, size_t len, const mvt_fault *fault);
 
 /* Where a fault stands in the refused bytes: the layer's name, which points into these bytes and may not be UTF-8, the

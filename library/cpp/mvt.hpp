@@ -519,11 +519,10 @@ public:
     /// With a bound on the bytes of the rows.
     explicit decoder(std::uint64_t most = UINT64_MAX) { require_ok(mvt_decoder_new(&held_, most), {}); }
     decoder(decoder &&other) noexcept
-        : held_(std::exchange(other.held_, {})), head_(other.head_), head_size_(other.head_size_) {}
+        : held_(std::exchange(other.held_, {})), head_(std::move(other.head_)) {}
     decoder &operator=(decoder other) noexcept {
         std::swap(held_, other.held_);
         std::swap(head_, other.head_);
-        std::swap(head_size_, other.head_size_);
         return *this;
     }
     decoder(const decoder &) = delete;
@@ -532,27 +531,23 @@ public:
     /// Takes a piece. Throws refused as soon as no further byte can change the fault, and again at each further call.
     void feed(input piece) {
         mvt_fault fault{};
-        const std::size_t more = std::min(piece.size(), head_.size() - head_size_);
-        std::copy_n(piece.data(), more, head_.begin() + static_cast<std::ptrdiff_t>(head_size_));
-        head_size_ += more;
-        require_ok(mvt_decoder_feed(&held_, piece.data(), piece.size(), &fault), fault, head(), false);
+        const std::size_t more = std::min(piece.size(), MVT_HEAD - head_.size());
+        head_.insert(head_.end(), piece.data(), piece.data() + more);
+        require_ok(mvt_decoder_feed(&held_, piece.data(), piece.size(), &fault), fault, head_, false);
     }
 
     /// The tile, after the last piece. Ends the decoder. Throws refused.
     [[nodiscard]] tile finish() {
         mvt_tile rows{};
         mvt_fault fault{};
-        require_ok(mvt_decoder_finish(&held_, &rows, &fault), fault, head(), false);
+        require_ok(mvt_decoder_finish(&held_, &rows, &fault), fault, head_, false);
         return tile::adopt(rows);
     }
 
 private:
-    /// The first bytes, to recognise what isn't a tile.
-    input head() const noexcept { return {head_.data(), head_size_}; }
-
     mvt_decoder held_{};
-    std::array<std::uint8_t, 16> head_{};
-    std::size_t head_size_ = 0;
+    /// The first bytes, to recognise what isn't a tile, as in each language.
+    std::vector<std::uint8_t> head_;
 };
 
 /// Throws refused if the bytes are no tile. Makes nothing, so it is the fastest check.

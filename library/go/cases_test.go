@@ -179,7 +179,19 @@ func refused(t *testing.T, of *told, err error) {
 	var last *libmvt.Refused
 	same(t, "a decoder's fault", errors.As(other, &last), true)
 	same(t, "a decoder's line", last.Line(), fault.Line())
+	same(t, "a decoder's sentence", inOnePiece(t, of.tile), fault.Explanation)
 	mended(t, of, err)
+}
+
+// inOnePiece is what a decoder says that takes a refused tile at once.
+func inOnePiece(t *testing.T, tile []byte) string {
+	t.Helper()
+	decoder, err := libmvt.NewDecoder()
+	_, _ = must(t, err, decoder).Write(tile)
+	_, err = decoder.Finish()
+	var told *libmvt.Refused
+	same(t, "one piece is refused", errors.As(err, &told), true)
+	return told.Explanation
 }
 
 func mended(t *testing.T, of *told, wanted error) {

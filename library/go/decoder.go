@@ -42,8 +42,8 @@ func (d *Decoder) fed() *feeding {
 }
 
 const (
-	// So many bytes of the head are kept.
-	headLen = 64
+	// So many bytes of the head are kept, as in each language.
+	headLen = C.MVT_HEAD
 	// So many bytes are read at a time.
 	pieceLen = 65_536
 	// So many reads that give nothing, one after the other, are no reader.

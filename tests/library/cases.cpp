@@ -32,12 +32,13 @@ void same(std::string_view got, std::string_view wanted, const char *what) {
 
 std::string text_of(mvt::byte_span bytes) { return {bytes.begin(), bytes.end()}; }
 
-mvt::tile in_pieces(mvt::byte_span tile) {
+mvt::tile in_pieces(mvt::byte_span tile, std::size_t size) {
     mvt::decoder decoder;
-    const std::size_t size = tile.size() < 100'000 ? 7 : 1 << 16;
     for (std::size_t at = 0; at < tile.size(); at += size) decoder.feed(tile.subspan(at, std::min(size, tile.size() - at)));
     return decoder.finish();
 }
+
+std::size_t size_of_pieces(mvt::byte_span tile) { return tile.size() < 100'000 ? 7 : 1 << 16; }
 
 std::ptrdiff_t lines_of(const std::string &text) { return std::ranges::count(text, '\n'); }
 
@@ -69,21 +70,24 @@ void accepted(const told_case &of, mvt::byte_span tile) {
     same(mvt::rewrite(tile).str(), canonical, "canonical");
     const mvt::tile read = mvt::read(tile);
     same(mvt::write(read.rows()).str(), canonical, "rows that are written");
-    require(in_pieces(tile) == read, "a tile in pieces");
+    require(in_pieces(tile, size_of_pieces(tile)) == read, "a tile in pieces");
     const mvt::mended mended = mvt::mend(tile);
     same(text_of(mended.bytes()), canonical, "nothing to mend");
     require(mended.changes().empty(), "no changes");
     extracted(of, tile);
 }
 
+/// The sentence of the fault, of which the line is the case's.
 template <class Call>
-void refuses(const told_case &of, Call call, const char *what) {
+std::string refuses(const told_case &of, Call call, const char *what) {
     try {
         call();
     } catch (const mvt::refused &why) {
-        return same(why.line() + "\n", said(of, "fault"), what);
+        same(why.line() + "\n", said(of, "fault"), what);
+        return std::string(why.sentence());
     }
     require(false, what);
+    return {};
 }
 
 void refused(const told_case &of, mvt::byte_span tile, const mvt::refused &why) {
@@ -103,8 +107,12 @@ void refused(const told_case &of, mvt::byte_span tile, const mvt::refused &why) 
     refuses(of, [&] { static_cast<void>(mvt::survey(tile)); }, "survey");
     refuses(of, [&] { static_cast<void>(mvt::lint(tile)); }, "lint");
     refuses(of, [&] { static_cast<void>(mvt::lint_rows(tile)); }, "lint_rows");
-    refuses(of, [&] { static_cast<void>(in_pieces(tile)); }, "pieces");
-    if (!case_has(&of, "mended")) return refuses(of, [&] { static_cast<void>(mvt::mend(tile)); }, "mend");
+    refuses(of, [&] { static_cast<void>(in_pieces(tile, size_of_pieces(tile))); }, "pieces");
+    same(refuses(of, [&] { static_cast<void>(in_pieces(tile, tile.size())); }, "one piece"), sentence, "a decoder's sentence");
+    if (!case_has(&of, "mended")) {
+        refuses(of, [&] { static_cast<void>(mvt::mend(tile)); }, "mend");
+        return;
+    }
     const mvt::mended mended = mvt::mend(tile);
     same(text_of(mended.bytes()), bytes_said(of, "mended"), "the mended tile");
     require(static_cast<std::ptrdiff_t>(mended.changes().size()) == lines_of(said(of, "change")), "the changes");

@@ -60,6 +60,7 @@ def refused(case):
         assert said["explain"].startswith(holders_line(fault, place) + "\n")
     assert (f"{fault.start} {fault.end}\n", f"{fault.sentence}\n") == (said["place"], said["sentence"])
     assert refused_by(lambda whole: decoded(whole, 1 if len(whole) < 1000 else 1 << 16), tile).line == fault.line
+    assert refused_by(lambda whole: decoded(whole, len(whole)), tile).sentence == fault.sentence
     if "mended" in said:
         mended = libmvt.mend(tile)
         assert (mended.bytes, "".join(f"{change}\n" for change in mended.changes)) == (case.bytes_of("mended"), said["change"])

@@ -1,17 +1,15 @@
 /* The class Decoder. */
 #include "module.h"
 
-/* So many bytes tell whether the tile looks like something else. */
-enum { HEAD = 16 };
-
 typedef struct {
     PyObject_HEAD
     PyObject *weak;
     state *of;
     mvt_decoder decoder;
     PyThread_type_lock turn;
-    uint8_t head[HEAD];
-    size_t known;
+    /* The first bytes, to recognise what isn't a tile, as in each language: `known` of them, in memory for `room`. */
+    uint8_t *head;
+    size_t known, room;
 } decoder;
 
 static PyObject *decoder_new(PyTypeObject *type, PyObject *words, PyObject *named) {
@@ -50,14 +48,25 @@ static void decoder_dealloc(PyObject *self) {
     decoder *of = (decoder *)self;
     if (of->weak != NULL) PyObject_ClearWeakRefs(self);
     mvt_decoder_free(&of->decoder);
+    PyMem_Free(of->head);
     if (of->turn != NULL) PyThread_free_lock(of->turn);
     given_back(self);
 }
 
-static void keep_head(decoder *of, const uint8_t *bytes, size_t len) {
-    const size_t more = len < HEAD - of->known ? len : HEAD - of->known;
+/* Whether there is memory for what of the first bytes is in a piece. */
+static int keep_head(decoder *of, const uint8_t *bytes, size_t len) {
+    const size_t more = len < MVT_HEAD - of->known ? len : MVT_HEAD - of->known;
+    if (more == 0) return 1;
+    if (of->known + more > of->room) {
+        const size_t twice = 2 * of->room < MVT_HEAD ? 2 * of->room : MVT_HEAD;
+        const size_t room = of->known + more > twice ? of->known + more : twice;
+        uint8_t *head = PyMem_Realloc(of->head, room);
+        if (head == NULL) return 0;
+        of->head = head, of->room = room;
+    }
     memcpy(of->head + of->known, bytes, more);
     of->known += more;
+    return 1;
 }
 
 static PyObject *feed(PyObject *self, PyObject *words, PyObject *named) {
@@ -68,14 +77,15 @@ static PyObject *feed(PyObject *self, PyObject *words, PyObject *named) {
     PyObject *piece = bytes_of(given);
     if (piece == NULL) return NULL;
     mvt_fault fault = {0};
-    uint32_t status;
+    uint32_t status = MVT_NO_MEMORY;
     size_t len;
     const uint8_t *bytes = content_of(piece, &len);
     take_turn(of);
-    keep_head(of, bytes, len);
-    Py_BEGIN_ALLOW_THREADS
-    status = mvt_decoder_feed(&of->decoder, bytes, len, &fault);
-    Py_END_ALLOW_THREADS
+    if (keep_head(of, bytes, len)) {
+        Py_BEGIN_ALLOW_THREADS
+        status = mvt_decoder_feed(&of->decoder, bytes, len, &fault);
+        Py_END_ALLOW_THREADS
+    }
     PyThread_release_lock(of->turn);
     const int failed = raise_for(of->of, status, &fault, of->head, of->known, 0);
     Py_DECREF(piece);

@@ -5,6 +5,9 @@ use std::os::raw::{c_char, c_int, c_void};
 /// A tile has at most so many bytes.
 pub const LIMIT: usize = 67_108_864;
 
+/// So many of its first bytes tell what an input looks like that is no tile.
+pub const HEAD: usize = 65_536;
+
 pub const OK: u32 = 0;
 pub const REFUSED: u32 = 1;
 pub const NO_MEMORY: u32 = 2;

@@ -24,9 +24,6 @@ pub struct Decoder {
     head: Vec<u8>,
 }
 
-/// How many bytes of the head are kept.
-const HEAD: usize = 64;
-
 // SAFETY: what it holds is this value's alone, and no call takes it shared.
 unsafe impl Send for Decoder {}
 unsafe impl Sync for Decoder {}
@@ -67,8 +64,7 @@ impl Decoder {
     /// [`Error::Refused`], mostly without the layer's name and the feature's id, since the bytes aren't kept, and
     /// [`Error::OutOfMemory`].
     pub fn feed(&mut self, piece: &[u8]) -> Result<(), Error> {
-        let room = HEAD - self.head.len();
-        self.head.extend_from_slice(&piece[..room.min(piece.len())]);
+        self.keep_head(piece)?;
         let mut fault = no_fault();
         let (start, len) = (piece.as_ptr(), piece.len());
         // SAFETY: the decoder was made, and the piece is lent for the call.
@@ -77,6 +73,16 @@ impl Decoder {
             // SAFETY: the fault is filled where the bytes are refused.
             status => Err(unsafe { error_of(status, &self.head, &fault) }.of_front()),
         }
+    }
+
+    /// Keeps what of the tile's first bytes is in a piece, as in each language.
+    fn keep_head(&mut self, piece: &[u8]) -> Result<(), Error> {
+        let more = &piece[..piece.len().min(sys::HEAD - self.head.len())];
+        self.head
+            .try_reserve(more.len())
+            .map_err(|_| Error::OutOfMemory)?;
+        self.head.extend_from_slice(more);
+        Ok(())
     }
 
     /// The tile, after the last piece.

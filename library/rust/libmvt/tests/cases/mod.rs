@@ -106,6 +106,12 @@ fn refused(case: &Case, fault: Refused) {
     let last = decoder.finish().unwrap_err().to_string();
     assert!(last.starts_with(&format!("{line}: ")), "{name}: {last}");
     assert!(told.is_ok() || told == Err(last), "{name}");
+    let mut decoder = Decoder::new().unwrap();
+    let _ = decoder.feed(tile);
+    let Error::Refused(last) = decoder.finish().unwrap_err() else {
+        panic!("{name}: one piece isn't refused");
+    };
+    assert_eq!(last.explanation, fault.explanation, "{name}");
     mended(case, &error);
 }
 
