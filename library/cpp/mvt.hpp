@@ -15,7 +15,6 @@
 #include "mvt.h"
 
 #include <algorithm>
-#include <array>
 #include <bit>
 #include <concepts>
 #include <cstddef>
