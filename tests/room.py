@@ -16,6 +16,8 @@ MVT = Path(os.environ.get("MVT", TOP / "crates/mvt_cli/out/mvt_cli")).resolve()
 BUILT = Path(os.environ.get("BUILT", TOP / "library" / "out")).resolve()
 C = ["cc", "-std=c11", "-O1", "-g", "-Wall", "-Wextra", "-Werror", f"-I{TOP}/library/c"]
 CXX = ["-std=c++20", "-O1", "-g", "-Wall", "-Wextra", "-Wpedantic", "-Werror", f"-I{TOP}/library/c", f"-I{TOP}/library/cpp"]
+# The path under which Go's module is published.
+GO_MODULE = next(line.partition("=")[2] for line in (TOP / "packaging/names").read_text().splitlines() if line.startswith("go_module="))
 SANITIZED = ["-fsanitize=address,undefined", "-fno-sanitize-recover=all"]
 # Words for a program whose lines are counted, and those of C in the library, where tests/library/run built an object that counts.
 COUNTED = ["-O0", "--coverage"] if "MVT_COUNTED" in os.environ else []

@@ -11,7 +11,7 @@ import libmvt
 import libmvt.raw
 import pytest
 from documented import PROGRAMS, program_of
-from room import BUILT, CXX, MVT, TILES, TOP, made, needs, run
+from room import BUILT, CXX, GO_MODULE, MVT, TILES, TOP, made, needs, run
 from test_go import module
 from test_rust import cargo, crate
 
@@ -84,7 +84,7 @@ def test_go(tmp_path):
     (tmp_path / "list.go").write_text(program_of("list.go"))
     environment = {**os.environ, "GOFLAGS": "-mod=mod"}
     go("mod", "init", "example.com/list", cwd=tmp_path, env=environment)
-    words = ["-replace", f"huranvi.example/libmvt={module()}", "-require", "huranvi.example/libmvt@v0.0.0"]
+    words = ["-replace", f"{GO_MODULE}={module()}", "-require", f"{GO_MODULE}@v0.0.0"]
     go("mod", "edit", *words, cwd=tmp_path, env=environment)
     go("build", "-o", "list", cwd=tmp_path, env=environment)
     lists(tmp_path / "list")

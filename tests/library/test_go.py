@@ -8,7 +8,7 @@ import sys
 from pathlib import Path
 
 import pytest
-from room import BUILT, TOP, all_cases, made, needs, run
+from room import BUILT, GO_MODULE, TOP, all_cases, made, needs, run
 
 pytestmark = needs("go")
 
@@ -87,8 +87,8 @@ def test_a_new_library_is_linked(tmp_path):
     version = next(line.split('"')[1] for line in (BUILT / "mvt.h").read_text().splitlines() if "MVT_VERSION" in line).encode()
     assert content.count(version + b"\0") > 0
     (tmp_path / "user").mkdir()
-    (tmp_path / "user/go.mod").write_text(f"module user\n\ngo 1.19\n\nrequire huranvi.example/libmvt v0.0.0\n\nreplace huranvi.example/libmvt => {copy}\n")
-    (tmp_path / "user/main.go").write_text('package main\n\nimport "huranvi.example/libmvt"\n\nfunc main() { println(libmvt.Version()) }\n')
+    (tmp_path / "user/go.mod").write_text(f"module user\n\ngo 1.19\n\nrequire {GO_MODULE} v0.0.0\n\nreplace {GO_MODULE} => {copy}\n")
+    (tmp_path / "user/main.go").write_text(f'package main\n\nimport "{GO_MODULE}"\n\nfunc main() {{ println(libmvt.Version()) }}\n')
     go("build", "-o", "first", ".", cwd=tmp_path / "user")
     assert run(tmp_path / "user/first").stderr.strip() == version.decode()
     (built / "libmvt.a").write_bytes(content.replace(version + b"\0", b"7" * len(version) + b"\0"))
@@ -100,6 +100,6 @@ def test_a_new_library_is_linked(tmp_path):
 def test_the_example(tmp_path):
     shutil.copytree(TOP / "examples/go", tmp_path / "go")
     environment = {**os.environ, "GOFLAGS": "-mod=mod"}
-    go("mod", "edit", "-replace", f"huranvi.example/libmvt={module()}", cwd=tmp_path / "go", env=environment)
+    go("mod", "edit", "-replace", f"{GO_MODULE}={module()}", cwd=tmp_path / "go", env=environment)
     go("build", "-o", "guard", ".", cwd=tmp_path / "go", env=environment)
     run(sys.executable, Path(__file__).parent / "guard.py", tmp_path / "go" / "guard")

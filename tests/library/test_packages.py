@@ -15,7 +15,7 @@ from pathlib import Path
 
 import pytest
 from documented import program_of
-from room import BUILT, TILES, TOP, all_cases, made, needs, run
+from room import BUILT, GO_MODULE, TILES, TOP, all_cases, made, needs, run
 
 pytestmark = [pytest.mark.xdist_group("packages"), needs("dpkg-deb", "dpkg", "dh", "dh_python3", "pandoc", "pkg-config", "man", "g++")]
 [VERSION] = re.findall(r'^#define MVT_VERSION "(.*)"$', (TOP / "library/c/mvt.h").read_text(), re.M)
@@ -270,9 +270,9 @@ def test_go_module(tmp_path):
     """As a proxy hands it out."""
     (tmp_path / "list").mkdir()
     shutil.copy(document("list.go"), tmp_path / "list")
-    environment = {**PLAIN, "GOPROXY": f"file://{packages()}/go", "GONOSUMDB": "huranvi.example", "GOFLAGS": "-mod=mod -modcacherw"}
+    environment = {**PLAIN, "GOPROXY": f"file://{packages()}/go", "GONOSUMDB": GO_MODULE.partition("/")[0], "GOFLAGS": "-mod=mod -modcacherw"}
     environment.update(GOCACHE=os.environ["MVT_ROOM"] + "/go-cache", GOMODCACHE=str(tmp_path / "modules"))
-    for words in (["mod", "init", "example.com/list"], ["get", f"huranvi.example/libmvt@v{VERSION}"], ["build", "-o", "list_go"]):
+    for words in (["mod", "init", "example.com/list"], ["get", f"{GO_MODULE}@v{VERSION}"], ["build", "-o", "list_go"]):
         run("go", *words, cwd=tmp_path / "list", env=environment)
     assert of_gdal(tmp_path / "list/list_go") == LAYERS
 
