@@ -1,29 +1,34 @@
 #!/usr/bin/python3
-"""Mends the tiles that evidence/producers made, counts what was mended, and draws some before and after by QGIS and by Mapbox
-GL; writes the table of docs/OTHER_PROGRAMS.md: mended.py FOLDER MVT PAGE [TILES]
+"""Mends the tiles that evidence/producers made, and draws every one that is mended, before and after, by Mapbox GL, as MapLibre
+fills polygons, and by QGIS; writes the table of docs/OTHER_PROGRAMS.md: mended.py MVT PAGE FOLDER..
 
-Of each set TILES tiles (6) are drawn, those with the largest mended rings. The fill of a mended feature may change only
-within the box of its points: pixels that are filled there afterwards and weren't before are counted, and pixels that changed
-elsewhere in Mapbox GL; QGIS marks small polygons by circles, which reach out of their boxes. One tile, by QGIS before and
-after, becomes producers/mended.png beside the page.
+Each FOLDER has a folder for each set. A pixel is wrong that isn't filled as the even-odd rule fills it, which must be the same
+before and after. Tiles of which more is wrong afterwards are named, and the status is then 1. One tile, by QGIS before and after,
+becomes producers/mended.png beside the page, where a set has it.
 """
 import collections
+import itertools
 import pathlib
 import re
 import subprocess
 import sys
 import tempfile
-from concurrent.futures import ThreadPoolExecutor
+from concurrent.futures import ProcessPoolExecutor, ThreadPoolExecutor
+
+import filling
+import numpy
+from mapbox_gl import SIZE, ZOOM, polygons_over
+from PIL import Image
 
 here = pathlib.Path(__file__).parent.resolve()
 sys.path.insert(0, str(here.parent / "producers"))
-from feature import features_of, ring_area
-from mapbox_gl import SIZE, draw
-from PIL import Image
+from feature import features_of
 
 CHANGE = re.compile(r"mended layer (\d+) feature (\d+): (\w+)")
-WHITE = b"\xff\xff\xff"
-MARGIN = 2  # pixels round a box: the viewer rounds positions
+UNMENDED = re.compile(r"mvt: not mended: (?:layer \d+ feature \d+: )?(.*)")
+POLYGON = 3
+SHEET = 1 << 2 * ZOOM  # tiles that are drawn at once
+DEEPEST = 8  # so many polygons over a pixel are told apart
 PICTURED = "gdal-coast/1/1/0.pbf"
 
 
@@ -42,92 +47,158 @@ class Mended:
             self.after = done.stdout if done.returncode == 0 else None
             lines = done.stderr.decode().splitlines()
             self.changes = [CHANGE.match(line).groups() for line in lines if self.after is not None]
+            self.why_not = re.sub(r" \d+ and \d+", "", UNMENDED.match(lines[-1])[1]) if self.after is None else None
             self.is_accepted = self.after is not None and run(mvt, "check", self.after).returncode == 0
 
+    def places(self, *kinds):
+        """The features with changes, or with such ones."""
+        return {(int(layer), int(feature)) for layer, feature, kind in self.changes if not kinds or kind in kinds}
 
-def features(mended):
-    """The mended features as they stood."""
-    places = {(int(layer), int(feature)) for layer, feature, _ in mended.changes}
-    return [feature for feature in features_of(mended.before) if feature.where in places]
-
-
-def largest(mended):
-    """The area of the largest first ring, in shares of the tile."""
-    return max(abs(ring_area(feature.first_ring())) / feature.extent**2 for feature in features(mended))
-
-
-def boxes(mended):
-    """Of each mended feature the box of its points, in pixels."""
-    for feature in features(mended):
-        points = [point for path in feature.paths() for point in path]
-        yield [pick(point[axis] for point in points) * SIZE / feature.extent + by * MARGIN
-               for pick, by in ((min, -1), (max, 1)) for axis in (0, 1)]
+    def changed(self):
+        """The rings and the extents of each polygon that was changed, before and after; none after, if it is left out."""
+        gone, left = self.places("FeatureLeftOut"), collections.defaultdict(dict)
+        for feature in features_of(self.after):
+            left[feature.where[0]][feature.where[1]] = feature
+        for feature in features_of(self.before):
+            layer, place = feature.where
+            if feature.type == POLYGON and feature.where in self.places():
+                stays = left[layer].get(place - sum(at[0] == layer and at[1] < place for at in gone))
+                yield feature.extent, feature.paths(), [] if feature.where in gone else stays.paths()
 
 
-def by_mapbox(tile, layers):
-    return draw(tile, [(name, "fill") for name in layers]).picture
+def names(tiles):
+    return sorted({feature.layer for tile in tiles for feature in features_of(tile)})
 
 
-def by_qgis(tile, _):
+def changed_truths(mended):
+    """Of each changed polygon its box, what the even-odd rule fills there, and what MapLibre fills, before and after."""
+    for extent, rings, others in mended.changed():
+        box = filling.box_of(rings, extent)
+        truth = filling.even_odd(rings, extent, box)
+        if (filling.even_odd(others, extent, box) != truth).any():
+            raise RuntimeError(f"{mended.path}: the even-odd rule fills something else than before")
+        yield box, truth, [filling.by_maplibre(each, extent, box) for each in (rings, others)]
+
+
+def truth_of(mended):
+    """How many polygons should lie over each pixel: the changed ones by the even-odd rule, and others as MapLibre fills them; and
+    how many pixels of the changed ones MapLibre fills wrong, before and after."""
+    depth, wrong = numpy.zeros((SIZE, SIZE), dtype=numpy.int32), [0, 0]
+    for feature in features_of(mended.before):
+        if feature.type == POLYGON and feature.where not in mended.places():
+            rings = feature.paths()
+            left, top, right, bottom = box = filling.box_of(rings, feature.extent)
+            depth[top:bottom, left:right] += filling.by_maplibre(rings, feature.extent, box)
+    for (left, top, right, bottom), truth, drawn in changed_truths(mended):
+        depth[top:bottom, left:right] += truth
+        wrong = [count + int((each != truth).sum()) for count, each in zip(wrong, drawn)]
+    return numpy.minimum(depth, DEEPEST), wrong
+
+
+def drawn_by_mapbox(tiles, truths):
+    """Of each tile how many pixels are wrong. One that isn't there yet is waited for."""
+    for wait in (10000, 40000):
+        pictures = [numpy.asarray(each) for each in polygons_over(tiles, names(tiles), wait)]
+        wrong = [int((picture != truth).sum()) for picture, truth in zip(pictures, truths)]
+        if all(picture.any() or not truth.any() for picture, truth in zip(pictures, truths)):
+            break
+    return wrong
+
+
+def drawn_by_qgis(tiles):
+    """Of each tile the picture."""
     with tempfile.TemporaryDirectory() as room:
-        file, picture = pathlib.Path(room, "tile.pbf"), pathlib.Path(room, "out.png")
-        file.write_bytes(tile)
-        subprocess.run([here / "qgis_draws.py", file, picture], check=True, capture_output=True)
-        return Image.open(picture).convert("RGB").tobytes()
+        for at, tile in enumerate(tiles):
+            y, x = divmod(at, 1 << ZOOM)
+            file = pathlib.Path(room, f"{ZOOM}/{x}/{y}.pbf")
+            file.parent.mkdir(parents=True, exist_ok=True)
+            file.write_bytes(tile)
+        subprocess.run([here / "qgis_draws.py", "--sheet", str(ZOOM), room, f"{room}/out.png"], check=True, capture_output=True)
+        whole = Image.open(f"{room}/out.png").convert("RGB")
+    for at in range(len(tiles)):
+        y, x = divmod(at, 1 << ZOOM)
+        yield whole.crop((x * SIZE, y * SIZE, (x + 1) * SIZE, (y + 1) * SIZE))
 
 
-def compared(mended, by):
-    """Pixels within the boxes of mended features that something fills afterwards alone; and those that changed elsewhere."""
-    layers = sorted({feature.layer for feature in features_of(mended.before)})
-    one, other = by(mended.before, layers), by(mended.after, layers)
-    within, filled, elsewhere = list(boxes(mended)), 0, 0
-    for at in range(0, len(one), 3):
-        if one[at : at + 3] == other[at : at + 3]:
-            continue
-        y, x = divmod(at // 3, SIZE)
-        if any(left <= x <= right and top <= y <= bottom for left, top, right, bottom in within):
-            filled += one[at : at + 3] == WHITE
-        else:
-            elsewhere += 1
-    return filled, elsewhere
+def filled_by_qgis(sheet):
+    """How many pixels it fills afterwards alone."""
+    count = 0
+    for one, other in zip(*(drawn_by_qgis([getattr(it, when) for it in sheet]) for when in ("before", "after"))):
+        was, is_now = ((numpy.asarray(each) != 255).any(axis=2) for each in (one, other))
+        count += int((~was & is_now).sum())
+    return count
+
+
+def sheets(tiles):
+    return [tiles[at : at + SHEET] for at in range(0, len(tiles), SHEET)]
+
+
+def compared(mended):
+    """Of each tile the wrong pixels in Mapbox GL and in MapLibre, before and after; and how many QGIS fills afterwards alone."""
+    with ProcessPoolExecutor() as pool:
+        truths, by_maplibre = zip(*pool.map(truth_of, mended, chunksize=4))
+    by_mapbox = []
+    with ThreadPoolExecutor(2) as pool:
+        for when in ("before", "after"):
+            found = pool.map(drawn_by_mapbox, sheets([getattr(it, when) for it in mended]), sheets(truths))
+            by_mapbox.append(list(itertools.chain.from_iterable(found)))
+        filled = sum(pool.map(filled_by_qgis, sheets(mended)))
+    return list(zip(*by_mapbox)), by_maplibre, filled
+
+
+def told(counts):
+    return ", ".join(f"{kind} {count:,}" for kind, count in sorted(counts.items())) or "-"
+
+
+def row(mvt, name, folder):
+    """The row of a set, and the tiles of which more is wrong afterwards."""
+    paths = sorted(path for path in folder.rglob("*") if path.suffix in (".pbf", ".mvt"))
+    with ThreadPoolExecutor() as pool:
+        refused = [it for it in pool.map(lambda path: Mended(mvt, path), paths) if it.refused]
+    whole = [it for it in refused if it.is_accepted]
+    if not whole:
+        return None, []
+    kinds = collections.Counter(kind for it in whole for _, _, kind in it.changes)
+    why_not = collections.Counter(it.why_not or "still refused" for it in refused if not it.is_accepted)
+    by_mapbox, by_maplibre, filled = compared(whole)
+    worse = [it.path for it, *counts in zip(whole, by_mapbox, by_maplibre) if any(before < after for before, after in counts)]
+    for it, *counts in zip(whole, by_mapbox, by_maplibre):
+        if it.path in worse:
+            print(f"{it.path}: wrong in Mapbox GL, in MapLibre (before, after): {counts}", file=sys.stderr, flush=True)
+    sums = [[sum(each) for each in zip(*counts)] for counts in (by_mapbox, by_maplibre)]
+    cells = [name, f"{len(whole):,} of {len(refused):,}", told(why_not), told(kinds)]
+    cells += [*(f"{before:,}; {after:,}" for before, after in sums), f"{len(worse):,}", f"{filled:,}"]
+    return f"| {' | '.join(cells)} |", worse
 
 
 def side_by_side(pictures):
     whole = Image.new("RGB", (2 * SIZE + 8, SIZE), "#888888")
     for at, picture in enumerate(pictures):
-        whole.paste(Image.frombytes("RGB", (SIZE, SIZE), picture), (at * (SIZE + 8), 0))
+        whole.paste(picture, (at * (SIZE + 8), 0))
     return whole.convert("P", palette=Image.ADAPTIVE, colors=16)
 
 
-def row(mvt, folder, most):
-    paths = sorted(path for path in folder.rglob("*") if path.suffix in (".pbf", ".mvt"))
-    with ThreadPoolExecutor() as pool:
-        refused = [it for it in pool.map(lambda path: Mended(mvt, path), paths) if it.refused]
-    if not refused:
-        return None
-    whole = [it for it in refused if it.is_accepted]
-    kinds = collections.Counter(kind for it in whole for _, _, kind in it.changes)
-    chosen = sorted(whole, key=lambda it: (-largest(it), it.path))[:most]
-    with ThreadPoolExecutor(2) as pool:
-        by_one, by_other = [list(pool.map(lambda it: compared(it, by), chosen)) for by in (by_qgis, by_mapbox)]
-    qgis, mapbox = sum(filled for filled, _ in by_one), sum(map(sum, by_other))
-    told = ", ".join(f"{kind} {count:,}" for kind, count in sorted(kinds.items()))
-    return f"| {folder.name} | {len(whole):,} of {len(refused):,} | {told} | {qgis:,} | {mapbox:,} |"
-
-
 def main():
-    folder, mvt, page = map(pathlib.Path, sys.argv[1:4])
-    most = int(sys.argv[4]) if len(sys.argv) > 4 else 6
-    pictured = Mended(mvt, folder / PICTURED)
-    pictures = [by_qgis(tile, None) for tile in (pictured.before, pictured.after)]
-    side_by_side(pictures).save(page.parent / "producers/mended.png", optimize=True)
-    rows = filter(None, (row(mvt, it, most) for it in sorted(folder.iterdir()) if it.is_dir()))
-    table = "\n".join(["| Set | Mended | Changes | QGIS fills | Mapbox GL changes |", "|---|---|---|---|---|", *rows])
+    mvt, page, *folders = map(pathlib.Path, sys.argv[1:])
+    heads = ["Set", "Mended", "Not mended", "Changes", "Mapbox GL", "MapLibre", "Drawn worse", "QGIS fills"]
+    rows, worse = [f"| {' | '.join(heads)} |", "|" + "---|" * len(heads)], []
+    for at, folder in enumerate(folders):
+        if (folder / PICTURED).exists():
+            pictured = Mended(mvt, folder / PICTURED)
+            pictures = [next(drawn_by_qgis([tile])) for tile in (pictured.before, pictured.after)]
+            side_by_side(pictures).save(page.parent / "producers/mended.png", optimize=True)
+        for each in sorted(it for it in folder.iterdir() if it.is_dir()):
+            told_of_set, found = row(mvt, each.name if at == 0 else f"{folder.name}, {each.name}", each)
+            worse += found
+            if told_of_set:
+                rows.append(told_of_set)
+                print(told_of_set, flush=True)
+    table = "\n".join(rows)
     text = page.read_text(encoding="utf-8")
     text = re.sub(r"(<!-- mended -->\n).*?(<!-- end of mended -->)", lambda it: f"{it[1]}{table}\n{it[2]}", text, flags=re.S)
     page.write_text(text, encoding="utf-8")
-    print(table)
+    return bool(worse)
 
 
 if __name__ == "__main__":
-    main()
+    sys.exit(main())
