@@ -1,6 +1,7 @@
-// Guard stands before a tile server: tiles that keep every rule pass, and for others it answers 502 and why.
+// Guard stands before a tile server: tiles that keep every rule pass, and for others it answers 502 and why. With -mend it passes
+// on mended what `mvt mend` mends.
 //
-//	go run . -listen 127.0.0.1:8080 http://127.0.0.1:7800
+//	go run . -listen 127.0.0.1:8080 -mend http://127.0.0.1:7800
 package main
 
 import (
@@ -16,6 +17,7 @@ import (
 
 func main() {
 	listen := flag.String("listen", "127.0.0.1:8080", "the address to listen on")
+	mend := flag.Bool("mend", false, "pass on mended what breaks only ZeroSegment or FirstRing")
 	flag.Parse()
 	upstream, err := url.Parse(flag.Arg(0))
 	if err != nil || upstream.Host == "" {
@@ -26,5 +28,9 @@ func main() {
 		log.Fatal(err)
 	}
 	fmt.Printf("http://%s\n", listener.Addr())
-	log.Fatal(http.Serve(listener, guard.New(upstream)))
+	var options []guard.Option
+	if *mend {
+		options = append(options, guard.Mend())
+	}
+	log.Fatal(http.Serve(listener, guard.New(upstream, options...)))
 }

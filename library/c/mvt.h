@@ -212,10 +212,11 @@ typedef struct {
 /* The canonical bytes of a tile in which the two rules are mended that producers break most: MVT_CAUSE_ZERO_SEGMENT and
  * MVT_CAUSE_FIRST_RING. With them comes what was changed: of each feature its lines or rings in order, or that it is left out.
  * Where a polygon's first ring has negative area, its rings are told by even-odd: what an odd number of the others hold is a
- * hole, but for a unit. Filled by even-odd the tile looks the same before and after.
- * A tile that keeps every rule is rewritten, and has no changes; one that breaks another rule too, or whose rings cross, is
- * refused with the fault that mvt_judge tells. With MVT_REFUSED it writes `why`, unless that is NULL. Free the result with
- * mvt_mended_free. MVT_OK, MVT_REFUSED, MVT_NO_MEMORY, MVT_TOO_LARGE. */
+ * hole, but for a unit. Filled by even-odd the tile looks the same before and after; ids, attributes and all else stay.
+ * A tile that keeps every rule is rewritten, and has no changes. Refused with the fault that mvt_judge tells is one that breaks
+ * another rule too, whose rings cross by more than a unit, or whose rings would take seconds (2^30 steps).
+ * With MVT_REFUSED it writes `why`, unless that is NULL. Free the result with mvt_mended_free. MVT_OK, MVT_REFUSED,
+ * MVT_NO_MEMORY, MVT_TOO_LARGE. */
 mvt_status mvt_mend(const uint8_t *bytes, size_t len, mvt_mended *out, mvt_fault *fault, mvt_unmended_row *why);
 
 /* The canonical bytes of the named layers of version 2, in the order of the tile. A repeated name counts once; without

@@ -718,7 +718,8 @@ private:
 }
 
 /// A tile with the two rules mended that producers break most, ZeroSegment and FirstRing. A tile that keeps every rule comes as
-/// `rewrite` makes it. Throws refused, with the fault of the tile as it stands, where it breaks another rule too, and too_large.
+/// `rewrite` makes it. Throws refused, with the fault of the tile as it stands, where it breaks another rule too, or its rings
+/// cross by more than a unit or would take seconds (2^30 steps); and too_large.
 [[nodiscard]] inline mended mend(input of) {
     mvt_mended out{};
     mvt_fault fault{};

@@ -1,4 +1,5 @@
-"""The example of a guard: a good tile passes, a broken one is answered 502 with its fault: guard.py PROGRAM"""
+"""The example of a guard: a good tile passes, a broken one is answered 502 with its fault, and mended where that is asked for:
+guard.py PROGRAM"""
 
 import functools
 import http.server
@@ -19,17 +20,31 @@ class Quiet(http.server.SimpleHTTPRequestHandler):
 
 upstream = http.server.ThreadingHTTPServer(("127.0.0.1", 0), functools.partial(Quiet, directory=TILES))
 threading.Thread(target=upstream.serve_forever, daemon=True).start()
-words = [sys.argv[1], "-listen", "127.0.0.1:0", f"http://127.0.0.1:{upstream.server_port}"]
-with subprocess.Popen(words, stdout=subprocess.PIPE, stderr=subprocess.DEVNULL, text=True) as run:
-    try:
-        address = run.stdout.readline().strip()
-        with urllib.request.urlopen(f"{address}/gdal.mvt", timeout=60) as answer:
-            assert answer.read() == (TILES / "gdal.mvt").read_bytes()
+
+
+def guarded(*words):
+    """What a guard with these words answers for a good tile and for a broken one: the status and the body."""
+    command = [sys.argv[1], "-listen", "127.0.0.1:0", *words, f"http://127.0.0.1:{upstream.server_port}"]
+    with subprocess.Popen(command, stdout=subprocess.PIPE, stderr=subprocess.DEVNULL, text=True) as run:
         try:
-            urllib.request.urlopen(f"{address}/broken/20-ZeroSegment.mvt", timeout=60)
-        except urllib.error.HTTPError as answer:
-            assert answer.code == 502 and b"20 ZeroSegment" in answer.read()
-        else:
-            raise AssertionError("a broken tile passed")
-    finally:
-        run.kill()
+            address = run.stdout.readline().strip()
+            return [asked(f"{address}/{name}.mvt") for name in ("gdal", "broken/22-FirstRing")]
+        finally:
+            run.kill()
+
+
+def asked(address):
+    try:
+        with urllib.request.urlopen(address, timeout=60) as answer:
+            return answer.status, answer.read()
+    except urllib.error.HTTPError as answer:
+        return answer.code, answer.read()
+
+
+good = 200, (TILES / "gdal.mvt").read_bytes()
+# The ring (20, 34), (3, 6), (8, 12).
+mended = 200, bytes.fromhex("1a1778020a0161120d180322090928441221370a0c0f288020")
+plain, mending = guarded(), guarded("-mend")
+assert plain[0] == mending[0] == good
+assert plain[1][0] == 502 and b"22 FirstRing" in plain[1][1] and b"mvt mend mends this" in plain[1][1], plain
+assert mending[1] == mended, mending

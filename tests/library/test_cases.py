@@ -53,7 +53,8 @@ def refused(case):
     fault = faults[0]
     assert {each.args for each in faults} == {fault.args}
     assert fault.line + "\n" == said["fault"]
-    assert str(fault) == f"{fault.line}: {fault.explanation}"
+    assert fault.can_be_mended == ("mended" in said)
+    assert str(fault) == f"{fault.line}: {fault.explanation}" + (": mvt mend mends this" if "mended" in said else "")
     assert fault.explanation.endswith(fault.sentence)
     if fault.layer is not None:
         place = SimpleNamespace(name=None if fault.layer_name is None else fault.layer_name.encode(), id=fault.feature_id)

@@ -433,6 +433,16 @@ def server():
 
 
 WANTED = json.dumps(libmvt.to_geojson(TOWN, *PLACE), sort_keys=True)
+# A ring of negative area; a layer without a name; and that ring in a layer of a long name.
+TURNED = (TILES / "broken/22-FirstRing.mvt").read_bytes()
+NAMELESS = bytes.fromhex("1a027802")
+LONG_NAMED = b"\x1a\xea\x1f\x78\x02\x0a\xd6\x1f" + b"b" * 4054 + TURNED[7:]
+
+
+def refused(tile):
+    with pytest.raises(libmvt.Refused) as caught:
+        libmvt.judge(tile)
+    return caught.value
 
 
 class TestCommands:
@@ -513,6 +523,29 @@ class TestCommands:
         got, out, errors = run(*words, stdin=TOWN)
         assert (got, out, errors.count("\n")) == (status, b"", 1), errors
         assert "\x1b" not in errors and "Traceback" not in errors
+
+    def test_what_mending_helps_says_so(self):
+        for tile, helps in ((TURNED, True), (TURNED + NAMELESS, False), (NAMELESS, False), (LONG_NAMED, True)):
+            status, out, errors = run("0/0/0", stdin=tile)
+            assert (status, out, errors.count("\n")) == (1, b"", 1), errors
+            assert errors.endswith(": mvt mend mends this\n") == helps, errors
+
+    def test_mended(self, tmp_path):
+        (tmp_path / "a.mvt").write_bytes(gzip.compress(TURNED))
+        mended = libmvt.mend(TURNED).bytes
+        for name in ("geojson", "tile"):
+            said = f"mvt-{name}: mended: TurnedRing 1\n"
+            wanted = mended if name == "tile" else json.dumps(libmvt.to_geojson(mended, 0, 0, 0), sort_keys=True)
+            for words, stdin in ((["-", "0/0/0"], TURNED), ([tmp_path / "a.mvt", "0/0/0"], b"")):
+                status, out, errors = run(*words, "--mend", stdin=stdin, module=name)
+                assert (status, errors) == (0, said)
+                assert (out if name == "tile" else json.dumps(json.loads(out), sort_keys=True)) == wanted
+            status, out, errors = run("-", "0/0/0", "--mend", stdin=TOWN, module=name)
+            assert (status, errors) == (0, "")
+            status, out, errors = run("-", "0/0/0", "--mend", stdin=TURNED + NAMELESS, module=name)
+            assert (status, out, errors) == (1, b"", f"mvt-{name}: {refused(TURNED + NAMELESS)}\n")
+        assert run("-", "0/0/0", "--mend", stdin=TOWN, module="tile")[1] == libmvt.rewrite(TOWN)
+        assert run("-", "0/0/0", "--mend", "--raw", stdin=TURNED, module="tile")[:2] == (2, b"")
 
     def test_no_tile_there_and_no_place(self, stores):
         for name in ("a.mbtiles", "tree", "list.txt", "a.pmtiles"):

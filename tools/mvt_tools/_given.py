@@ -3,9 +3,13 @@
 import argparse
 import sqlite3
 import sys
+from collections import Counter
 from typing import Any, BinaryIO, Callable, NoReturn, Optional, Sequence, Tuple
 
-from libmvt import MvtError, NoLayer, Refused
+from libmvt import MvtError, NoLayer, Refused, TooLarge
+from libmvt._mending import ROW
+from libmvt._mvt import mend_rows
+from libmvt._numbers import CHANGES
 
 from . import bounds
 from ._ending import MEMORY, UNREAD, USAGE, Output, bound_memory, hold_places, of_system, say
@@ -19,6 +23,10 @@ REFUSED = 1
 # What zstd begins with.
 _ZSTD = b"\x28\xb5\x2f\xfd"
 _PIECE = 1 << 20
+# What `--mend` is.
+MEND = "mend a tile that breaks only ZeroSegment or FirstRing, as mvt mend does; standard error counts the changes"
+# A fault is told in so many letters, so that what helps has room behind it.
+_MOST_SAID = 900
 
 Place = Tuple[int, int, int]
 
@@ -102,6 +110,16 @@ def plain(content: bytes) -> bytes:
         raise GivenError(REFUSED, f"it doesn't unpack: {why}") from why
 
 
+def mended(command: str, tile: bytes) -> bytes:
+    """A tile with what is broken mended, in canonical form; a line counts the changes. Raises Refused with the tile's fault where
+    it can't be mended, and TooLarge."""
+    made, rows = mend_rows(tile)
+    counts = Counter(CHANGES[kind] for kind, *_ in ROW.iter_unpack(rows))
+    if counts:
+        say(command, "mended: " + ", ".join(f"{kind} {count:,}" for kind, count in sorted(counts.items())))
+    return made
+
+
 def run(command: str, work: Callable[[], int]) -> int:
     """The status of a command that does some work; whatever goes wrong is told in one line."""
     try:
@@ -118,6 +136,8 @@ def _told(why: Exception) -> Tuple[int, str]:
     if isinstance(why, GivenError):
         return why.status, str(why)
     if isinstance(why, Refused):
+        return REFUSED, _with_hint(why)
+    if isinstance(why, TooLarge):
         return REFUSED, str(why)
     if isinstance(why, NoLayer):
         return USAGE, f"no layer of version 2 has the name {shown(repr(why.name))}"
@@ -128,3 +148,9 @@ def _told(why: Exception) -> Tuple[int, str]:
     if isinstance(why, (StoreError, MvtError)):
         return UNREAD, str(why)
     return UNREAD, f"a defect: {type(why).__name__}: {why}"
+
+
+def _with_hint(fault: Refused) -> str:
+    """The fault, and what helps: an explanation has names of any length."""
+    said = shown(f"{fault.line}: {fault.explanation}", _MOST_SAID)
+    return f"{said}: {fault.hint}" if fault.hint else said

@@ -21,7 +21,7 @@ _FOREIGN = "a layer of another version than 2 is left out"
 def _parser() -> argparse.ArgumentParser:
     words = _given.Words(
         prog=COMMAND,
-        usage="mvt-geojson [STORE] Z/X/Y [--layer NAME].. [--units tile|degrees] [--seq] [--precision N] [--tippecanoe]",
+        usage="mvt-geojson [STORE] Z/X/Y [--layer NAME].. [--units tile|degrees] [--seq] [--precision N] [--tippecanoe] [--mend]",
         description="Writes a vector tile as GeoJSON, in degrees.",
         epilog="Status: 0 it is written, 1 the tile is refused or doesn't unpack, 2 the command can't be done as it is,"
         " 3 something can't be read or written, 4 there is too little memory. Nothing is written of a refused tile.",
@@ -37,6 +37,7 @@ def _parser() -> argparse.ArgumentParser:
     words.add_argument("--seq", action="store_true", help="one feature on each line, and no collection")
     words.add_argument("--precision", type=_precision, metavar="N", help=f"decimals of degrees ({DECIMALS})")
     words.add_argument("--tippecanoe", action="store_true", help="a feature's layer and zoom as tippecanoe has them")
+    words.add_argument("--mend", action="store_true", help=_given.MEND)
     return words
 
 
@@ -101,7 +102,8 @@ def _work(words: Optional[Sequence[str]]) -> int:
         raise _given.GivenError(USAGE, "--precision is of degrees")
     if given.units == "degrees" and place is None:
         raise _given.GivenError(USAGE, "where on earth? say the tile's place, as 14/8192/8191, or --units tile")
-    table = rows(_given.plain(_given.stored(what, place)))
+    tile = _given.plain(_given.stored(what, place))
+    table = rows(_given.mended(COMMAND, tile) if given.mend else tile)
     parts: List[Part] = parts_of(table, given.layer)
     if any(layer.version != 2 for layer in table.layers):
         say(COMMAND, _FOREIGN)

@@ -16,10 +16,10 @@ COMMAND = "mvt-tile"
 def _parser() -> argparse.ArgumentParser:
     words = _given.Words(
         prog=COMMAND,
-        usage="mvt-tile STORE Z/X/Y [--raw] > tile.mvt",
+        usage="mvt-tile STORE Z/X/Y [--raw | --mend] > tile.mvt",
         description="Writes a tile of a store, unpacked.",
-        epilog="Status: 0 it is written, 1 it doesn't unpack or is too large, 2 the command can't be done as it is, 3 something can't be"
-        " read or written, 4 there is too little memory. The tile isn't judged.",
+        epilog="Status: 0 it is written, 1 it doesn't unpack, is too large or can't be mended, 2 the command can't be done as it is,"
+        " 3 something can't be read or written, 4 there is too little memory. Without --mend the tile isn't judged.",
     )
     words.add_argument(
         "what", nargs="+", metavar="STORE Z/X/Y",
@@ -27,7 +27,9 @@ def _parser() -> argparse.ArgumentParser:
         " a name on each line, or a server, by the address of its tiles or of its TileJSON; a file with one tile needs no"
         " place. And its place, with Y counted from the north",
     )
-    words.add_argument("--raw", action="store_true", help="as it lies, and not unpacked")
+    how = words.add_mutually_exclusive_group()
+    how.add_argument("--raw", action="store_true", help="as it lies, and not unpacked")
+    how.add_argument("--mend", action="store_true", help=_given.MEND)
     return words
 
 
@@ -40,6 +42,8 @@ def _work(words: Optional[Sequence[str]]) -> int:
     tile, most = (content, FILE - 1) if given.raw else (_given.plain(content), LIMIT)
     if len(tile) > most:  # what was read is the front
         raise _given.GivenError(_given.REFUSED, f"it has more than {most:,} bytes, which no tile has")
+    if given.mend:
+        tile = _given.mended(COMMAND, tile)
     output = Output()
     output.bytes(tile)
     output.flush()

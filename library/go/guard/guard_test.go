@@ -18,15 +18,10 @@ var (
 	good   = []byte{0x1a, 7, 0x78, 2, 0x0a, 1, 'a', 0x28, 1}
 	broken = []byte{0x1a, 2, 0x78, 2}
 	fault  = "layer 0 feature - at 0: 10 NoName\n"
+	// The ring (20, 34), (8, 12), (3, 6), of negative area, and the same with its points told the other way round.
+	turned  = []byte("\x1a\x14\x78\x02\x0a\x01a\x12\x0d\x18\x03\x22\x09\x09\x28\x44\x12\x17\x2b\x09\x0b\x0f")
+	upright = []byte("\x1a\x17\x78\x02\x0a\x01a\x12\x0d\x18\x03\x22\x09\x09\x28\x44\x12\x21\x37\x0a\x0c\x0f\x28\x80\x20")
 )
-
-func packed(tile []byte) []byte {
-	var out bytes.Buffer
-	writer := gzip.NewWriter(&out)
-	writer.Write(tile)
-	writer.Close()
-	return out.Bytes()
-}
 
 // answers are what a tile server gives: a body, and how it says that it is packed.
 var answers = map[string]struct {
@@ -42,12 +37,18 @@ var answers = map[string]struct {
 	"/cut":            {packed(good)[:20], ""},
 	"/no-gzip":        {good, "gzip"},
 	"/brotli":         {good, "br"},
+	"/turned":         {turned, ""},
+	"/packed-turned":  {packed(turned), "gzip"},
+	"/unnamed-turned": {packed(turned), ""},
+	// Behind the ring a layer without a name: nothing mends that.
+	"/turned-broken": {append(append([]byte{}, turned...), broken...), ""},
 	// An unknown field with so many bytes.
 	"/large": {packed(append([]byte{0x7a, 0x80, 0x80, 0x80, 0x20}, make([]byte, libmvt.Limit)...)), ""},
 }
 
 func serve(w http.ResponseWriter, r *http.Request) {
 	if answer, ok := answers[r.URL.Path]; ok {
+		w.Header().Set("ETag", `"1"`)
 		if answer.encoding != "" {
 			w.Header().Set("Content-Encoding", answer.encoding)
 		}
@@ -76,14 +77,14 @@ func serve(w http.ResponseWriter, r *http.Request) {
 }
 
 // guarded is the address of a guard, and of the server behind it.
-func guarded(t *testing.T) (string, *url.URL) {
+func guarded(t *testing.T, options ...Option) (string, *url.URL) {
 	upstream := httptest.NewServer(http.HandlerFunc(serve))
 	t.Cleanup(upstream.Close)
 	address, err := url.Parse(upstream.URL)
 	if err != nil {
 		t.Fatal(err)
 	}
-	server := httptest.NewServer(New(address))
+	server := httptest.NewServer(New(address, options...))
 	t.Cleanup(server.Close)
 	return server.URL, address
 }
@@ -147,6 +148,55 @@ func TestGuard(t *testing.T) {
 				t.Errorf("packed by %q", named)
 			}
 		})
+	}
+}
+
+// A fault that mending mends is said to be so, and no other.
+func TestWhatHelps(t *testing.T) {
+	server, _ := guarded(t)
+	for path, wanted := range map[string]bool{"/turned": true, "/packed-turned": true, "/turned-broken": false, "/broken": false} {
+		status, _, body := ask(t, "GET", server+path, nil)
+		if status != 502 || strings.HasSuffix(body, "\nmvt mend mends this\n") != wanted {
+			t.Errorf("%s: %d %q", path, status, body)
+		}
+	}
+}
+
+func unpackedBody(t *testing.T, body string) string {
+	tile, err := unpacked([]byte(body), "")
+	if err != nil {
+		t.Fatal(err)
+	}
+	return string(tile)
+}
+
+// A guard that mends passes on what is mended, packed as it came, and other tiles as they came.
+func TestMend(t *testing.T) {
+	server, _ := guarded(t, Mend())
+	for _, path := range []string{"/turned", "/packed-turned", "/unnamed-turned"} {
+		status, header, body := ask(t, "GET", server+path, nil)
+		if status != 200 || unpackedBody(t, body) != string(upright) || header.Get("Mvt-Mended") != "TurnedRing 1" {
+			t.Errorf("%s: %d %q %v", path, status, body, header)
+		}
+		isPacked := strings.HasPrefix(body, string(gzipMark))
+		if isPacked != (path != "/turned") || (header.Get("Content-Encoding") == "gzip") != (path == "/packed-turned") {
+			t.Errorf("%s: packed %v, named %q", path, isPacked, header.Get("Content-Encoding"))
+		}
+		if length := header.Get("Content-Length"); length != fmt.Sprint(len(body)) || header.Get("ETag") != "" {
+			t.Errorf("%s: %s bytes of %d, ETag %q", path, length, len(body), header.Get("ETag"))
+		}
+	}
+	for _, path := range []string{"/good", "/packed"} {
+		_, header, body := ask(t, "GET", server+path, nil)
+		if unpackedBody(t, body) != string(good) || header.Get("Mvt-Mended") != "" || header.Get("ETag") != `"1"` {
+			t.Errorf("%s: %q %v", path, body, header)
+		}
+	}
+	for path, wanted := range map[string]string{"/broken": fault, "/turned-broken": "layer 0 feature 0 at 8: 22 FirstRing\n"} {
+		status, _, body := ask(t, "GET", server+path, nil)
+		if status != 502 || !strings.HasPrefix(body, wanted) || strings.Contains(body, "mends this") {
+			t.Errorf("%s: %d %q", path, status, body)
+		}
 	}
 }
 

@@ -1,6 +1,9 @@
 """What the calls raise."""
 
-from typing import Optional
+from typing import Any, Optional, Tuple
+
+# Of a tile up to so many bytes the text of a fault says whether it can be mended; to ask that of a larger one takes seconds.
+_ASKED = 2_000_000
 
 
 class MvtError(Exception):
@@ -8,8 +11,8 @@ class MvtError(Exception):
 
 
 class Refused(MvtError):
-    """The first rule that a tile breaks. Its text is `line`, which the program `mvt` prints, and `explanation`: `sentence`, the
-    fault in words, behind the names of its layer and its feature.
+    """The first rule that a tile breaks. Its text is `line`, which the program `mvt` prints, `explanation`: `sentence`, the
+    fault in words, behind the names of its layer and its feature; and `hint`: "mvt mend mends this" where `mend` does.
 
     `layer` and `feature` are indices, or None for a fault outside a layer or a feature. `at` is an offset in the
     tile, or an index in the tags or integers of the feature. `cause` is the cause's number and `name` its name.
@@ -17,6 +20,9 @@ class Refused(MvtError):
     `end`; if both are equal, something is missing before that byte. Both are None if the tile isn't at hand, as in a
     decoder.
     """
+
+    _tile: Optional[bytes] = None
+    _is_mended: Optional[bool] = None
 
     def __init__(
         self,
@@ -51,8 +57,39 @@ class Refused(MvtError):
         """The line that the program `mvt` prints."""
         return f"layer {_index(self.layer)} feature {_index(self.feature)} at {self.at}: {self.cause} {self.name}"
 
+    @property
+    def can_be_mended(self) -> bool:
+        """Whether `mend` makes a tile of these bytes that keeps every rule. When this, or the text, is first read, the bytes are
+        mended, which takes as long as `mend`. False of other causes than ZeroSegment and FirstRing, and where the tile isn't at
+        hand, as in a decoder, or for a tile above 2 MB where the exception was pickled before."""
+        if self._is_mended is None:
+            tile = self.__dict__.pop("_tile", None)
+            self._is_mended = tile is not None and _is_mended(tile)
+        return self._is_mended
+
+    @property
+    def hint(self) -> str:
+        """What helps, or nothing. Of a tile above 2 MB it is nothing, until `can_be_mended` was read."""
+        is_asked = self._is_mended is not None or self._tile is not None and len(self._tile) <= _ASKED
+        return "mvt mend mends this" if is_asked and self.can_be_mended else ""
+
+    def __reduce__(self) -> Tuple[Any, ...]:
+        """Without the tile, but with the same text."""
+        _ = self.hint  # which may be asked for now alone
+        return type(self), self.args, {name: value for name, value in self.__dict__.items() if name != "_tile"}
+
     def __str__(self) -> str:
-        return ": ".join(filter(None, [self.line, self.explanation]))
+        return ": ".join(filter(None, [self.line, self.explanation, self.hint]))
+
+
+def _is_mended(tile: bytes) -> bool:
+    from ._mvt import judge, mend_rows  # which imports this module
+
+    try:
+        judge(mend_rows(tile)[0])
+    except (MvtError, MemoryError):
+        return False
+    return True
 
 
 class TooLarge(MvtError):

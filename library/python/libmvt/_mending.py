@@ -4,6 +4,7 @@ from dataclasses import dataclass
 from struct import Struct
 from typing import List, NamedTuple, Optional, Sequence, Union
 
+from ._errors import Refused
 from ._mvt import mend_rows
 from ._numbers import CHANGES
 
@@ -49,10 +50,15 @@ def mend(tile: _Buffer) -> Mended:
     """A tile with the two rules mended that producers break most: a point that equals the one before it (ZeroSegment), and
     a first ring that goes the wrong way round (FirstRing).
 
-    A tile that keeps every rule comes as `rewrite` makes it, without changes. Raises Refused, with the fault of the tile as it
-    stands, where it breaks another rule too, and TooLarge.
+    Filled by the even-odd rule it looks the same before and after; ids, attributes and all else stay. A tile that keeps every
+    rule comes as `rewrite` makes it, without changes. Raises Refused, with the fault of the tile as it stands, where it breaks
+    another rule too, or its rings cross by more than a unit or would take seconds (2^30 steps); and TooLarge.
     """
-    made, rows = mend_rows(tile)
+    try:
+        made, rows = mend_rows(tile)
+    except Refused as fault:
+        fault._is_mended = False
+        raise
     return Mended(made, list(map(change_of, CHANGE_ROW.iter_unpack(rows))))
 
 

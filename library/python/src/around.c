@@ -42,7 +42,7 @@ static PyObject *around_rows(PyObject *module, PyObject *words) {
     Py_BEGIN_ALLOW_THREADS
     status = mvt_around(bytes, len, &fault, &out);
     Py_END_ALLOW_THREADS
-    if (raise_for(state_of_module(module), status, &fault, bytes, len, 1) == 0) told = surroundings_told(&out);
+    if (raise_for(state_of_module(module), status, &fault, bytes, len, tile) == 0) told = surroundings_told(&out);
     mvt_surroundings_free(&out);
     Py_DECREF(tile);
     return told;

@@ -2,7 +2,7 @@
  * anything is added. A feature is gathered here, and handed to the library's builder as one. */
 #include "module.h"
 
-static int raise_status(const building *to, uint32_t status) { return raise_for(to->of, status, NULL, NULL, 0, 0); }
+static int raise_status(const building *to, uint32_t status) { return raise_for(to->of, status, NULL, NULL, 0, NULL); }
 
 /* Raises that a call isn't due. */
 static int not_due(const building *to, const char *why) {

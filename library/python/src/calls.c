@@ -44,11 +44,17 @@ static PyObject *text_or_none(int is_there, mvt_bytes text) {
     return Py_None;
 }
 
-/* Raises a fault, with what the bytes that are at hand, all of the tile or its first, tell of its place. */
-static void raise_refused(const state *of, const mvt_fault *fault, const uint8_t *bytes, size_t len, int is_whole) {
+/* Whether mvt_mend may mend what is broken. */
+static int is_curable(const mvt_fault *fault) {
+    return fault->cause == MVT_CAUSE_ZERO_SEGMENT || fault->cause == MVT_CAUSE_FIRST_RING;
+}
+
+/* Raises a fault, with what the bytes that are at hand, all of the tile or its first, tell of its place. It holds the whole
+ * tile where it may be asked whether that can be mended. */
+static void raise_refused(const state *of, const mvt_fault *fault, const uint8_t *bytes, size_t len, PyObject *whole) {
     mvt_place place = {0};
     mvt_locate(bytes, len, fault, &place);
-    const int has_place = len != 0 && is_whole;
+    const int has_place = len != 0 && whole != NULL;
     PyObject *why = PyObject_CallFunction(
         of->refused, "NNKks#sNNNN", index_or_none(fault->layer), index_or_none(fault->feature),
         (unsigned long long)fault->at, (unsigned long)fault->cause, (const char *)fault->name.data,
@@ -56,15 +62,17 @@ static void raise_refused(const state *of, const mvt_fault *fault, const uint8_t
         text_or_none(place.has_layer_name != 0, place.layer_name),
         number_or_none(place.has_feature_id != 0, place.feature_id), number_or_none(has_place, place.start),
         number_or_none(has_place, place.end));
-    if (why != NULL) PyErr_SetObject(of->refused, why);
+    const int is_held = why != NULL && whole != NULL && is_curable(fault);
+    if (why != NULL && (!is_held || PyObject_SetAttrString(why, "_tile", whole) == 0)) PyErr_SetObject(of->refused, why);
     Py_XDECREF(why);
 }
 
-/* Raises what a status other than MVT_OK means: 0, or -1 with an error. */
-int raise_for(const state *of, uint32_t status, const mvt_fault *fault, const uint8_t *bytes, size_t len, int is_whole) {
+/* Raises what a status other than MVT_OK means: 0, or -1 with an error. The bytes are those of the whole tile, if that is given,
+ * and else all of a tile or its first. */
+int raise_for(const state *of, uint32_t status, const mvt_fault *fault, const uint8_t *bytes, size_t len, PyObject *whole) {
     switch (status) {
     case MVT_OK: return 0;
-    case MVT_REFUSED: raise_refused(of, fault, bytes, len, is_whole); break;
+    case MVT_REFUSED: raise_refused(of, fault, bytes, len, whole); break;
     case MVT_NO_MEMORY: PyErr_SetString(PyExc_MemoryError, "out of memory"); break;
     case MVT_TOO_LARGE: PyErr_SetString(of->too_large, mvt_status_text(status)); break;
     default: PyErr_SetString(of->error, mvt_status_text(status)); break;
@@ -113,7 +121,7 @@ static PyObject *judge(PyObject *module, PyObject *words, PyObject *named) {
     Py_BEGIN_ALLOW_THREADS
     status = mvt_judge(bytes, len, &fault);
     Py_END_ALLOW_THREADS
-    const int failed = raise_for(state_of_module(module), status, &fault, bytes, len, 1);
+    const int failed = raise_for(state_of_module(module), status, &fault, bytes, len, tile);
     Py_DECREF(tile);
     return failed ? NULL : number_or_none(0, 0);
 }
@@ -160,7 +168,7 @@ static PyObject *made_of(PyObject *module, PyObject *words, PyObject *named, mak
     Py_BEGIN_ALLOW_THREADS
     status = call(bytes, len, &out, &fault);
     Py_END_ALLOW_THREADS
-    if (raise_for(state_of_module(module), status, &fault, bytes, len, 1) == 0) made = as(state_of_module(module), &out);
+    if (raise_for(state_of_module(module), status, &fault, bytes, len, tile) == 0) made = as(state_of_module(module), &out);
     mvt_bytes_free(&out);
     Py_DECREF(tile);
     return made;
@@ -227,7 +235,7 @@ static PyObject *extract_from(const state *of, PyObject *tile, PyObject *list, c
         if (why != NULL) PyErr_SetObject(of->no_layer, why);
         Py_XDECREF(why);
         Py_XDECREF(name);
-    } else if (raise_for(of, status, &fault, bytes, len, 1) == 0) {
+    } else if (raise_for(of, status, &fault, bytes, len, tile) == 0) {
         made = PyBytes_FromStringAndSize((const char *)out.data, (Py_ssize_t)out.len);
     }
     mvt_bytes_free(&out);

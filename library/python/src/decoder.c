@@ -41,7 +41,7 @@ static int decoder_init(PyObject *self, PyObject *words, PyObject *named) {
     of->known = 0;
     const uint32_t status = mvt_decoder_new(&of->decoder, most);
     PyThread_release_lock(of->turn);
-    return raise_for(of->of, status, NULL, NULL, 0, 0);
+    return raise_for(of->of, status, NULL, NULL, 0, NULL);
 }
 
 static void decoder_dealloc(PyObject *self) {
@@ -87,7 +87,7 @@ static PyObject *feed(PyObject *self, PyObject *words, PyObject *named) {
         Py_END_ALLOW_THREADS
     }
     PyThread_release_lock(of->turn);
-    const int failed = raise_for(of->of, status, &fault, of->head, of->known, 0);
+    const int failed = raise_for(of->of, status, &fault, of->head, of->known, NULL);
     Py_DECREF(piece);
     if (failed) return NULL;
     Py_INCREF(Py_None);
@@ -103,7 +103,7 @@ static int end(decoder *of, mvt_tile *tile) {
     status = mvt_decoder_finish(&of->decoder, tile, &fault);
     Py_END_ALLOW_THREADS
     PyThread_release_lock(of->turn);
-    return raise_for(of->of, status, &fault, of->head, of->known, 0);
+    return raise_for(of->of, status, &fault, of->head, of->known, NULL);
 }
 
 static PyObject *rows(PyObject *self, PyObject *unused) {

@@ -286,7 +286,7 @@ static int read_rows(const state *of, PyObject *given, unsigned long long most, 
     Py_BEGIN_ALLOW_THREADS
     status = mvt_read(bytes, len, most, out, &fault);
     Py_END_ALLOW_THREADS
-    const int failed = raise_for(of, status, &fault, bytes, len, 1);
+    const int failed = raise_for(of, status, &fault, bytes, len, tile);
     Py_DECREF(tile);
     return failed;
 }
@@ -335,7 +335,7 @@ static PyObject *layer_named(const state *of, PyObject *tile, PyObject *name, Py
         PyObject *why = PyObject_CallFunctionObjArgs(of->no_layer, name, NULL);
         if (why != NULL) PyErr_SetObject(of->no_layer, why);
         Py_XDECREF(why);
-    } else if (raise_for(of, status, &fault, bytes, len, 1) == 0) {
+    } else if (raise_for(of, status, &fault, bytes, len, tile) == 0) {
         PyObject *layers = layers_read(of, &out);
         made = layers == NULL ? NULL : PySequence_GetItem(layers, 0);
         Py_XDECREF(layers);

@@ -51,7 +51,7 @@ static PyObject *looked(PyObject *module, PyObject *given, int what, PyObject *(
     size_t len;
     const uint8_t *bytes = content_of(tile, &len);
     const uint32_t status = look(what, bytes, len, &out, &fault);
-    if (raise_for(state_of_module(module), status, &fault, bytes, len, 1) == 0) told = tell(&out);
+    if (raise_for(state_of_module(module), status, &fault, bytes, len, tile) == 0) told = tell(&out);
     mvt_summary_free(&out.summary);
     mvt_findings_free(&out.findings);
     Py_DECREF(tile);
@@ -120,7 +120,7 @@ static PyObject *mend_rows(PyObject *module, PyObject *given) {
     Py_BEGIN_ALLOW_THREADS
     status = mvt_mend(bytes, len, &out, &fault, NULL);
     Py_END_ALLOW_THREADS
-    if (raise_for(state_of_module(module), status, &fault, bytes, len, 1) == 0)
+    if (raise_for(state_of_module(module), status, &fault, bytes, len, tile) == 0)
         told = Py_BuildValue("(NN)", rows_told(out.bytes.data, out.bytes.len, 1),
                              rows_told(out.changes, out.change_count, sizeof *out.changes));
     mvt_mended_free(&out);

@@ -6,7 +6,7 @@ PyObject *made_of_rows(const state *of, uint32_t status, mvt_bytes *out, const m
     PyObject *made = NULL;
     if (status == MVT_NO_TILE) {
         raise_no_tile(of, wrong);
-    } else if (raise_for(of, status, NULL, NULL, 0, 0) == 0) {
+    } else if (raise_for(of, status, NULL, NULL, 0, NULL) == 0) {
         made = PyBytes_FromStringAndSize((const char *)out->data, (Py_ssize_t)out->len);
     }
     mvt_bytes_free(out);

@@ -228,7 +228,7 @@ for (const [name, { paper, layers }] of Object.entries({ LIGHT, DARK })) {
 
 // ---- the shape of a faulty feature
 
-const { boxOfShape } = await import('../../../tools/mvt_tools/page/src/shape.js');
+const { boxOfShape, polygonsOf } = await import('../../../tools/mvt_tools/page/src/shape.js');
 const isIn = (shape, [x, y]) => {
   const box = boxOfShape({ mark: null, extent: 4096, ...shape });
   return x >= box.x && y >= box.y && x <= box.x + box.size && y <= box.y + box.size;
@@ -236,6 +236,15 @@ const isIn = (shape, [x, y]) => {
 const beyond = { parts: [[[4200, 500], [4300, 500], [4300, 600]]] };
 await is('a shape beyond the tile is seen whole, with the nearest edge', [[4200, 500], [4300, 600], [4096, 550], [0, 0]].map((point) => isIn(beyond, point)), [true, true, true, false]);
 await is('a shape beyond a corner is seen with the corner', isIn({ parts: [[[-300, -900], [-200, -800]]] }, [0, 0]), true);
+const square = (side, at = 0) => [[at, at], [at + side, at], [at + side, at + side], [at, at + side], [at, at]];
+const back = (ring) => ring.toReversed();
+const flat = [[0, 0], [9, 9], [0, 0]];
+await is('holes stand behind the polygon that they are cut out of', polygonsOf([square(9), back(square(5, 2)), square(1, 4), back(square(2, 20))]),
+  [[square(9), back(square(5, 2))], [square(1, 4), back(square(2, 20))]]);
+await is('the first ring with area says which direction begins a polygon', polygonsOf([flat, back(square(9)), square(5, 2), flat, back(square(1, 4))]),
+  [[back(square(9)), square(5, 2)], [back(square(1, 4))]]);
+await is('rings of one direction are polygons of their own', polygonsOf([back(square(9)), back(square(5, 2))]), [[back(square(9))], [back(square(5, 2))]]);
+await is('there is no polygon without area', polygonsOf([flat]), []);
 await is('a shape in the tile fills the square', boxOfShape({ parts: [[[100, 100], [300, 200]]], mark: null, extent: 4096 }), { x: 70, y: 20, size: 260 });
 await is('a mark beyond the tile is seen', isIn({ parts: [[[10, 10]]], mark: [9000, 10] }, [9000, 10]), true);
 

@@ -115,10 +115,26 @@ await onPage('a tile is mended, shown before and after, and saved', {}, async (p
   return same([...told, bytes.toString('hex')], ['Mended: 1 change', 2, 'Accepted', '1a1778020a0161120d180322090928441221370a0c0f288020']);
 });
 
+// A land, a lake in it and an island in that, all of negative area: viewers fill the lake as if it were a land.
+const atoll = Buffer.from('1a3378020a01611229180322250900001a00c801c8010000c7010f099f01281a0078780000770f094f281a0028280000270f288020', 'hex');
+/** Whether the lake, and the island in it, look like the paper round the land, in the picture before and in that after. */
+const LIKE_PAPER = `[...document.querySelectorAll('.mending .shape canvas')].map((canvas) => {
+  const colour = (at) => canvas.getContext('2d').getImageData(...at.map((side) => Math.round((side + 15) * canvas.width / 130)), 1, 1).data.join();
+  return [[30, 50], [50, 50]].map((at) => colour(at) === colour([-12, -12]));
+})`;
+
+await onPage('what mends is said at once, and polygons are filled by the directions of their rings', {}, async (page) => {
+  await look(page, [made('atoll.mvt', atoll)]);
+  await page.until("document.querySelector('.mending [role=status]').textContent !== ''");
+  const said = await page.value(textOf('.mending [role=status]'));
+  await page.value(clickNamed('Mend'));
+  await page.until("document.querySelectorAll('.mending .shape canvas').length === 2");
+  return same([said, await page.value(LIKE_PAPER)], ['mvt mend mends this.', [[false, false], [true, false]]]);
+});
+
 await onPage('a tile that breaks another rule too is not mended, and others have no button for it', {}, async (page) => {
   const zero = readFileSync(`${tiles}/broken/20-ZeroSegment.mvt`);
   await look(page, [made('two-faults.mvt', Buffer.concat([zero, Buffer.of(0x1a, 2, 0x78, 2)]))]);
-  await page.value(clickNamed('Mend'));
   await page.until("document.querySelector('.mending [role=status]').textContent.startsWith('It can')");
   const why = await page.value(textOf('.mending [role=status]'));
   await look(page, [`${tiles}/broken/10-NoName.mvt`]);

@@ -68,8 +68,8 @@ pub enum Change {
 ///
 /// # Errors
 ///
-/// [`Error::Refused`] with the fault of the tile as it stands, where it breaks another rule too, [`Error::TooLarge`],
-/// [`Error::OutOfMemory`].
+/// [`Error::Refused`] with the fault of the tile as it stands, where it breaks another rule too, or its rings cross by more than
+/// a unit or would take seconds (2^30 steps); [`Error::TooLarge`], [`Error::OutOfMemory`].
 pub fn mend(bytes: &[u8]) -> Result<Mended, Error> {
     let empty = sys::Mended {
         bytes: no_bytes(),

@@ -22,16 +22,27 @@ export function isCurable({ cause }) {
   return CURABLE.includes(cause);
 }
 
-/** A button that mends, and the place below it: `mend()` gives `{status, told, bytes}`, and `view(bytes)` the mended tile’s view. */
-export function mendingOf(stem, mend, view) {
+/**
+ * A button that mends, and the place below it: `mend()` gives `{status, told, bytes}`, and `view(bytes)` the mended tile’s view.
+ * Where it is asked at once, what mending does is said before.
+ */
+export function mendingOf(stem, mend, view, isAsked) {
   const said = element('span', { class: 'quiet', role: 'status' });
   const place = element('div');
   const button = element('button', { type: 'button' }, ['Mend']);
+  let asked = isAsked ? mend() : null;
+  asked?.then(({ status }) => {
+    if (button.disabled) return;
+    if (status === STATUS.OK) said.replaceChildren(element('code', {}, ['mvt mend']), ' mends this.');
+    else said.textContent = whyNot(status);
+    button.disabled = status === STATUS.REFUSED;
+  }, () => { asked = null; });
   button.onclick = async () => {
     button.disabled = true;
     said.textContent = 'Mending …';
     try {
-      const { status, told, bytes } = await mend();
+      asked ??= mend();
+      const { status, told, bytes } = await asked;
       if (status === STATUS.OK) {
         const mended = await view(bytes);
         said.textContent = '';
@@ -39,13 +50,19 @@ export function mendingOf(stem, mend, view) {
         await mended.fill();
         return;
       }
-      said.textContent = UNMENDED[status] ?? 'There is no memory for it.';
+      asked = null;
+      said.textContent = whyNot(status);
     } catch (error) {
+      asked = null;
       said.textContent = `It can’t be mended: ${error.message}`;
     }
     button.disabled = false;
   };
   return element('section', { class: 'mending', 'aria-label': 'Mended' }, [element('div', { class: 'buttons' }, [button, said]), place]);
+}
+
+function whyNot(status) {
+  return UNMENDED[status] ?? 'There is no memory for it.';
 }
 
 function showMended({ kinds, lines, features }, saved) {
@@ -55,6 +72,7 @@ function showMended({ kinds, lines, features }, saved) {
     element('h3', {}, [`Mended: ${counted(count, 'change')}`]),
     element('ul', {}, kinds.map((each) => element('li', {}, [`${grouped(each.count)} × `, element('b', {}, [each.kind]), `: ${CHANGED[each.kind]}`]))),
     folded('Changes', () => element('pre', {}, [[...lines, ...rest].join('\n')])),
+    features.length === 0 ? '' : element('p', { class: 'quiet' }, ['Polygons are filled as MapLibre fills them: by the directions of their rings.']),
     ...features.map(showFeature),
     element('div', { class: 'buttons' }, [element('button', { type: 'button', onclick: saved }, ['Save the mended tile'])]),
   ]);

@@ -13,6 +13,8 @@ import { counted, grouped, size, sizeWith } from './text.js';
 import { lineOf, titleOf } from './verdict.js';
 import { sayDifference } from './words.js';
 
+/** Of a tile up to so many bytes it is looked at once whether it can be mended. */
+const MOST_ASKED = 2_000_000;
 const CANONICAL = 'A tile may be spelled in many ways: fields in another order, numbers with more bytes than they need, keys that no feature has. The canonical form is one of them, the same for equal tiles, and never needed to draw them. “Save canonical bytes” writes it.';
 
 /**
@@ -70,7 +72,7 @@ export class TileView {
       const name = `${stem}.mended.mvt`;
       const opened = await this.#client.ask('open', { source: bytes, name });
       return new TileView(this.#client, name, opened, { place: this.#placed, data: this.#data });
-    });
+    }, this.#opened.length <= MOST_ASKED);
   }
 
   /** What takes longer, the notes and the canonical form, comes when the picture is drawn. */
