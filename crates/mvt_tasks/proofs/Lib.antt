@@ -6,3 +6,4 @@ mod MarkLemmas
 mod OneReply
 mod Picks
 mod Replies
+mod RemedyLemmas

@@ -78,14 +78,16 @@ fn remedy(alloc: Global, input: &[u8], cause: Cause) -> Result<&'static str, Fai
 }
 
 /// The line that `mend` mends a refused tile, where it does.
+#[tactic(auto, using(crate::proofs::RemedyLemmas::unmended_untold))]
 fn if_mended(alloc: Global, input: &[u8]) -> Result<&'static str, Failure>
     ensures line { IfOk result (λ line. line.now
         ≡ mend_line (fault_within LIMIT (mended input.now))) }
     ensures failed { IfErr result (λ failure. failure ≡ Failure.Memory) }
 {
     match mend_tile(alloc, input) {
-        Ok(_) => Ok("mvt mend mends this.\n"),
-        Err(MendError::Refused(..)) => Ok(""),
-        Err(MendError::Memory) => Err(Failure::Memory),
+        Ok(_) => {}
+        Err(MendError::Refused(..)) => return Ok(""),
+        Err(MendError::Memory) => return Err(Failure::Memory),
     }
+    Ok("mvt mend mends this.\n")
 }
