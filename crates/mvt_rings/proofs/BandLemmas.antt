@@ -15,7 +15,7 @@ use Rattle.mvt_rings.specs.Placing.{is_level_with}
 use Rattle.mvt_rings.specs.Bands.{IsLevel}
 
 -- the greater and the less of two numbers
-abbrev IsUnder : ℤ → ℤ → ℤ → Type 0
+abbrev pub IsUnder : ℤ → ℤ → ℤ → Type 0
 IsUnder a b t = (a <ℤ t) × (b <ℤ t)
 
 greater_if : (c : Bool) (a b t : ℤ) → lt_z b a ≡ c → lt_z (if c then a else b) t ≡ true → IsUnder a b t
@@ -34,11 +34,11 @@ greater_if false a b t other is = (two a b t other is, one b t is)
     two : (a b t : ℤ) → lt_z b a ≡ false → lt_z b t ≡ true → a <ℤ t
     two a b t other is = grind (arith, ints)
 
-under_both : (a b t : ℤ) → lt_z (greater a b) t ≡ true → IsUnder a b t
+pub under_both : (a b t : ℤ) → lt_z (greater a b) t ≡ true → IsUnder a b t
 under_both a b t is = greater_if (lt_z b a) a b t refl is
 
 -- both are above a number and one more
-abbrev IsOver : ℤ → ℤ → ℤ → Type 0
+abbrev pub IsOver : ℤ → ℤ → ℤ → Type 0
 IsOver a b t = ((t +ℤ pos 1) <ℤ a) × ((t +ℤ pos 1) <ℤ b)
 
 less_if : (c : Bool) (a b t : ℤ) → lt_z a b ≡ c → lt_z t ((if c then a else b) -ℤ pos 1) ≡ true → IsOver a b t
@@ -57,25 +57,25 @@ less_if false a b t other is = (two a b t other is, one b t is)
     two : (a b t : ℤ) → lt_z a b ≡ false → lt_z t (b -ℤ pos 1) ≡ true → (t +ℤ pos 1) <ℤ a
     two a b t other is = grind (arith, ints)
 
-over_both : (a b t : ℤ) → lt_z t (less a b -ℤ pos 1) ≡ true → IsOver a b t
+pub over_both : (a b t : ℤ) → lt_z t (less a b -ℤ pos 1) ≡ true → IsOver a b t
 over_both a b t is = less_if (lt_z a b) a b t refl is
 
-twice : (z : ℤ) → pos 2 *ℤ z ≡ z +ℤ z
+pub twice : (z : ℤ) → pos 2 *ℤ z ≡ z +ℤ z
 twice z = omega (arith, ints)
 
-not_below : (a t y : ℤ) → a <ℤ t → (pos 2 *ℤ t) ≤ℤ y → lt_z y (pos 2 *ℤ a) ≡ false
+pub not_below : (a t y : ℤ) → a <ℤ t → (pos 2 *ℤ t) ≤ℤ y → lt_z y (pos 2 *ℤ a) ≡ false
 not_below a t y under low = rw twice (test a t y under (rw twice at low))
   where
     test : (a t y : ℤ) → a <ℤ t → (t +ℤ t) ≤ℤ y → lt_z y (a +ℤ a) ≡ false
     test a t y under low = grind (arith, ints)
 
-below : (a t y : ℤ) → a <ℤ t → (pos 2 *ℤ t) ≤ℤ y → lt_z (pos 2 *ℤ a) y ≡ true
+pub below : (a t y : ℤ) → a <ℤ t → (pos 2 *ℤ t) ≤ℤ y → lt_z (pos 2 *ℤ a) y ≡ true
 below a t y under low = rw twice (test a t y under (rw twice at low))
   where
     test : (a t y : ℤ) → a <ℤ t → (t +ℤ t) ≤ℤ y → lt_z (a +ℤ a) y ≡ true
     test a t y under low = grind (arith, ints)
 
-above : (a t y : ℤ) → t <ℤ a → y ≤ℤ (pos 2 *ℤ t) → lt_z y (pos 2 *ℤ a) ≡ true
+pub above : (a t y : ℤ) → t <ℤ a → y ≤ℤ (pos 2 *ℤ t) → lt_z y (pos 2 *ℤ a) ≡ true
 above a t y over high = rw twice (test a t y over (rw twice at high))
   where
     test : (a t y : ℤ) → t <ℤ a → y ≤ℤ (t +ℤ t) → lt_z y (a +ℤ a) ≡ true
@@ -86,12 +86,12 @@ pub record IsSilent (p : Spot) (e : Edge) : Type 0 where
   pub on : is_on 2 p e ≡ false
   pub crossed : is_crossed 2 p e ≡ false
 
-between_under : (c : Bool) (y a b : ℤ) → lt_z a y ≡ true → lt_z b y ≡ true
+pub between_under : (c : Bool) (y a b : ℤ) → lt_z a y ≡ true → lt_z b y ≡ true
     → (if c then is_within y a b else is_within y b a) ≡ false
 between_under true y a b one two = rw two (and_right (not (lt_z y a)) false refl)
 between_under false y a b one two = rw one (and_right (not (lt_z y b)) false refl)
 
-between_over : (c : Bool) (y a b : ℤ) → lt_z y a ≡ true → lt_z y b ≡ true
+pub between_over : (c : Bool) (y a b : ℤ) → lt_z y a ≡ true → lt_z y b ≡ true
     → (if c then is_within y a b else is_within y b a) ≡ false
 between_over true y a b one two = rw one refl
 between_over false y a b one two = rw two refl
@@ -132,7 +132,7 @@ silent_over p e t over high =
           (lt_z (pos 0) (side 2 p e)) from to;
     }
 
-silent : (box : Bounds) (p : Spot) (e : Edge) → IsLevel box p → is_level_with box e ≡ false → IsSilent p e
+pub silent : (box : Bounds) (p : Spot) (e : Edge) → IsLevel box p → is_level_with box e ≡ false → IsSilent p e
 unfolding is_level_with
 silent box p e level is =
     by_end

@@ -19,7 +19,7 @@ multiplied u v = omega (arith, ints)
 turned_round : (u : ℤ) → up (neg_ℤ u) + up u ≡ down (neg_ℤ u) + down u
 turned_round u = omega (arith, ints)
 
-mul-sub : (a s t : ℤ) → a *ℤ (s -ℤ t) ≡ (a *ℤ s) -ℤ (a *ℤ t)
+pub mul-sub : (a s t : ℤ) → a *ℤ (s -ℤ t) ≡ (a *ℤ s) -ℤ (a *ℤ t)
 mul-sub a s t = omega (arith, ints, ap (λ n. up a * n) (parted s t), ap (λ n. down a * n) (parted s t))
 
 neg-mul : (u s : ℤ) → neg_ℤ u *ℤ s ≡ neg_ℤ (u *ℤ s)

@@ -19,4 +19,8 @@ mod OuterLemmas
 mod PolygonLemmas
 mod SignsSayLemmas
 mod BandLemmas
+mod SidesLemmas
+mod ClearLemmas
+mod AwayLemmas
+mod PlaceLemmas
 mod LargerLemmas

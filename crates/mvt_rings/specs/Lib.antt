@@ -13,3 +13,4 @@ pub mod Counting
 pub mod Origins
 pub mod EvenOdd
 pub mod Bands
+pub mod Clear

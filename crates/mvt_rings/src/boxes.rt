@@ -63,7 +63,7 @@ pub(crate) fn greater(a: i32, b: i32) -> i32
 
 /// Whether two ranges have a number in common, both ends included.
 #[inline]
-fn overlap(low: i32, high: i32, from: i32, to: i32) -> bool
+pub(crate) fn overlap(low: i32, high: i32, from: i32, to: i32) -> bool
     ensures { result ≡ do_overlap low high from to }
 {
     low <= to && from <= high

@@ -1,8 +1,7 @@
 //! Which rings hold a ring.
 ghost use Rattle.std.specs.Prelude.{◌≡◌, ◌<◌, IfOk, slice_index};
-ghost use Rattle.mvt_rings.specs.Holding.{holder_of as the_holder, holders_of as the_holders, held_after, is_odd_one as is_an_odd_one, no_holder, odd_one_from, with_holder as the_with_holder, with_placed as the_with_placed, is_unclear as the_is_unclear};
+ghost use Rattle.mvt_rings.specs.Holding.{holder_of as the_holder, holders_of as the_holders, held_after, is_odd_one as is_an_odd_one, no_holder, odd_one_from, with_holder as the_with_holder};
 
-use crate::nesting::edges_of;
 use crate::placing::Place;
 use crate::rings::{Ring, may_hold, place};
 use mvt_base::Items;
@@ -95,13 +94,12 @@ fn hold(
     requires { none ≡ no_holder }
     ensures { IfOk result (λ r. r ≡ held_after ring.now none rings.now) }
 {
-    let edges = edges_of(alloc, ring.points.as_slice())?;
     let mut holder = none;
     for outer in rings {
         if !may_hold(outer, ring) {
             continue;
         }
-        match place(alloc, outer, ring, &edges)? {
+        match place(alloc, outer, ring)? {
             Place::Held => holder = with_holder(holder, outer),
             Place::Apart => {}
             Place::Unclear => {

@@ -4,6 +4,7 @@
 #![tactic(auto)]
 
 mod boxes;
+mod clear;
 mod holding;
 mod homes;
 pub mod laws;

@@ -1,6 +1,6 @@
 //! Lines and rings mended (sections 4.3.3.2 and 4.3.4.4).
-ghost use Rattle.std.specs.Prelude.{◌≡◌, ◌+◌, ◌++◌, IfOk, IfErr, OnOk};
-ghost use Rattle.mvt_rings.specs.Mending.{begins_negative as does_begin_negative, kept_from as the_kept, kept_one as the_kept_one, mended_lines, mended_rings, mending_steps};
+ghost use Rattle.std.specs.Prelude.{◌≡◌, ◌+◌, IfOk, IfErr};
+ghost use Rattle.mvt_rings.specs.Mending.{begins_negative, kept_from as the_kept, mended_lines, mended_rings, mending_steps};
 ghost use Rattle.mvt_rings.specs.Steps.{IsEnded};
 
 use crate::holding::Crossing;
@@ -55,8 +55,8 @@ pub fn mend_rings(alloc: Global, rings: &[Items<Point>], left: u64) -> Result<Me
     ensures left { IfOk result (λ r. r.left + mending_steps rings.now ≡ left) }
     ensures ended { IfErr result (λ e. IsEnded e left (mending_steps rings.now)) }
 {
-    let kept = keep_long(alloc, rings, 3)?;
-    if !begins_negative(&kept) {
+    if !begin_negative(alloc, rings)? {
+        let kept = keep_long(alloc, rings, 3)?;
         return Ok(MendedRings {
             rings: Ok(Items::new(kept)),
             left,
@@ -83,11 +83,14 @@ fn keep_long(alloc: Global, parts: &[Items<Point>], least: usize) -> Result<Vec<
 }
 
 /// Whether the first ring that stays has negative area.
-fn begins_negative(kept: &[Kept]) -> bool
-    ensures { result ≡ does_begin_negative kept.now }
+fn begin_negative(alloc: Global, rings: &[Items<Point>]) -> Result<bool, AllocError>
+    ensures { IfOk result (λ r. r ≡ begins_negative (the_kept 3 0 rings.now)) }
 {
-    match kept {
-        [first, ..] => is_negative(first.points.as_slice()),
-        [] => false,
+    for ring in rings {
+        let points = without_repeats(alloc, ring.as_slice())?;
+        if points.as_slice().len() >= 3 {
+            return Ok(is_negative(points.as_slice()));
+        }
     }
+    Ok(false)
 }

@@ -1,5 +1,5 @@
 //! Where a spot lies as to a ring: even-odd, by whole numbers alone.
-ghost use Rattle.std.specs.Prelude.{◌≡◌, ◌^◌, ◌≤◌, ◌-ℤ◌, ◌*ℤ◌, pos, unsigned_abs, IfOk};
+ghost use Rattle.std.specs.Prelude.{◌≡◌, ◌^◌, ◌≤◌, ◌-ℤ◌, ◌*ℤ◌, unsigned_abs, IfOk};
 ghost use Rattle.mvt_rings.specs.Nesting.{side as the_side, is_between as lies_between, is_on as lies_on, is_crossed as crosses, is_within as lies_within, lies_at as the_lies, edges_of as the_edges, in_parts};
 ghost use Rattle.mvt_geometry.specs.Shape.{origin, last_of as the_last_of};
 
@@ -45,11 +45,10 @@ pub(crate) fn edges_of(alloc: Global, ring: &[Point]) -> Result<Vec<Edge>, Alloc
 pub(crate) fn last_of(ring: &[Point]) -> Point
     ensures { result ≡ the_last_of origin ring.now }
 {
-    let mut last = Point { x: 0, y: 0 };
-    for point in ring {
-        last = *point;
+    if ring.is_empty() {
+        return Point { x: 0, y: 0 };
     }
-    last
+    ring[ring.len() - 1]
 }
 
 /// Where a spot lies as to the ring of these edges.

@@ -1,12 +1,12 @@
 //! Where a ring lies as to a larger one, but for the unit by which rounding moves points.
-ghost use Rattle.std.specs.Prelude.{◌≡◌, ◌^◌, ◌≤◌, ◌*◌, length, not, pos, ◌+ℤ◌, ◌-ℤ◌, unsigned_abs, IfOk};
-ghost use Rattle.mvt_rings.specs.Placing.{all_near as are_all_near, band as the_band, edge_near as is_edge_near, end_of as the_end, fits as does_fit, fits_at as does_fit_at, is_level_with as lies_level_with, is_narrow as has_little_area, is_near as lies_near, length_of as the_length, marks_on as the_marks_on, middle_of as the_middle, one_if as the_one_if, place_in as the_place_in, row_fits as does_row_fit, strictly as lies_strictly, wide_place as the_wide_place};
+ghost use Rattle.std.specs.Prelude.{◌≡◌, ◌^◌, ◌≤◌, ◌*◌, length, max, not, pos, ◌+ℤ◌, ◌-ℤ◌, unsigned_abs, IfOk};
+ghost use Rattle.mvt_rings.specs.Placing.{all_near as are_all_near, band as the_band, edge_near as is_edge_near, end_of as the_end, fits as does_fit, fits_at as does_fit_at, is_level_with as lies_level_with, is_near as lies_near, length_of as the_length, marks_on as the_marks_on, middle_of as the_middle, one_if as the_one_if, place_in as the_place_in, row_fits as does_row_fit, strictly as lies_strictly, wide_place as the_wide_place};
 ghost use Rattle.std.specs.Int.Signed.{lt_z};
 ghost use Rattle.mvt_rings.specs.Nesting.{edges_of as the_edges};
 
 use crate::boxes::{Bounds, greater, less};
-use crate::nesting::{Edge, Lies, Spot, edges_of, halves, last_of, lies_at};
-use mvt_geometry::{Point, twice_area};
+use crate::nesting::{Edge, Lies, Spot, halves, last_of, lies_at};
+use mvt_geometry::Point;
 use std::alloc::{AllocError, Global};
 
 /// Where a ring lies as to a larger one: held by it, apart from it, or neither.
@@ -141,32 +141,35 @@ fn marks_on(inside: bool, edges: &[Edge], marks: &[Edge]) -> u128
 }
 
 /// The length of a ring: of each edge the greater difference.
-fn length_of(edges: &[Edge]) -> u128
-    ensures value { result ≡ the_length edges.now }
-    ensures small { result ≤ 2 ^ 32 * length edges.now }
+pub(crate) fn length_of(ring: &[Point]) -> u128
+    ensures value { result ≡ the_length (the_edges ring.now) }
+    ensures small { result ≤ 2 ^ 32 * length ring.now }
 {
     let mut length = 0u128;
-    for edge in edges {
-        let right = edge.to.x.abs_diff(edge.from.x);
-        let down = edge.to.y.abs_diff(edge.from.y);
-        length += u128::from(right.max(down));
+    let mut from = last_of(ring);
+    for to in ring {
+        length += reach(Edge { from, to: *to });
+        from = *to;
     }
     length
 }
 
-/// Whether rounding can make such a ring, or turn it.
-#[tactic(auto, unfolding(crate::specs::Placing::is_narrow))]
-pub(crate) fn is_narrow(alloc: Global, ring: &[Point]) -> Result<bool, AllocError>
-    ensures { IfOk result (λ r. r ≡ has_little_area ring.now) }
+/// The greater difference of an edge.
+#[inline]
+fn reach(edge: Edge) -> u128
+    ensures value { result ≡ max (unsigned_abs (edge.to.x -ℤ edge.from.x))
+        (unsigned_abs (edge.to.y -ℤ edge.from.y)) }
+    ensures small { result ≤ 2 ^ 32 }
 {
-    let edges = edges_of(alloc, ring)?;
-    Ok(twice_area(ring).unsigned_abs() <= 2 * length_of(&edges))
+    let right = edge.to.x.abs_diff(edge.from.x);
+    let down = edge.to.y.abs_diff(edge.from.y);
+    u128::from(right.max(down))
 }
 
 /// Whether an edge is level with a box, a unit wider.
 #[inline]
 #[tactic(auto, unfolding(crate::specs::Placing::is_level_with))]
-fn is_level_with(bounds: Bounds, edge: Edge) -> bool
+pub(crate) fn is_level_with(bounds: Bounds, edge: Edge) -> bool
     ensures { result ≡ lies_level_with bounds edge }
 {
     let highest = less(edge.from.y, edge.to.y);
@@ -176,7 +179,7 @@ fn is_level_with(bounds: Bounds, edge: Edge) -> bool
 
 /// Whether one number is at most a unit greater than another.
 #[inline]
-fn is_just_above(above: i32, below: i32) -> bool
+pub(crate) fn is_just_above(above: i32, below: i32) -> bool
     ensures { result ≡ not (lt_z below (above -ℤ pos 1)) }
 {
     i64::from(above) - 1 <= i64::from(below)

@@ -1,5 +1,5 @@
 //! Points that repeat the one before them (section 4.3.3.2), and last points that repeat the first.
-ghost use Rattle.std.specs.Prelude.{◌≡◌, reverse, IfOk};
+ghost use Rattle.std.specs.Prelude.{◌≡◌, length, take, reverse, IfOk};
 ghost use Rattle.mvt_rings.specs.Repeats.{is_same as are_at_one_place, without_repeats as apart, past, opened as the_opened};
 
 use mvt_base::Items;
@@ -35,7 +35,8 @@ pub(crate) fn without_repeats(alloc: Global, points: &[Point]) -> Result<Items<P
 
 /// The points without those at the end that are at one place with the first.
 pub(crate) fn open_end(first: Point, points: &[Point]) -> &[Point]
-    ensures { reverse result.now ≡ past first (reverse points.now) }
+    ensures past { reverse result.now ≡ past first (reverse points.now) }
+    ensures front { result.now ≡ take (length result.now) points.now }
 {
     let mut open = points;
     while !open.is_empty() {
@@ -49,14 +50,20 @@ pub(crate) fn open_end(first: Point, points: &[Point]) -> &[Point]
 }
 
 /// A ring without last points that equal its first.
-pub(crate) fn opened(alloc: Global, ring: &[Point]) -> Result<Items<Point>, AllocError>
-    ensures { IfOk result (λ r. r ≡ the_opened ring.now) }
+pub(crate) fn opened(ring: Vec<Point>) -> Items<Point>
+    ensures { result ≡ the_opened ring.items }
 {
-    let mut points = Vec::with_capacity(alloc, ring.len())?;
-    let [first, others @ ..] = ring else {
-        return Ok(Items::new(points));
-    };
-    points.push(*first)?;
-    points.extend_from_slice(open_end(*first, others))?;
-    Ok(Items::new(points))
+    let mut points = ring;
+    points.truncate(open_len(points.as_slice()));
+    Items::new(points)
+}
+
+/// How many points it has then.
+fn open_len(ring: &[Point]) -> usize
+    ensures { take result ring.now ≡ the_opened ring.now }
+{
+    match ring {
+        [first, others @ ..] => 1 + open_end(*first, others).len(),
+        [] => 0,
+    }
 }

@@ -1,13 +1,12 @@
 //! The rings of a polygon, with what is asked of them more than once.
-ghost use Rattle.std.specs.Prelude.{◌≡◌, IfOk};
-ghost use Rattle.mvt_rings.specs.Nesting.{edges_of as the_edges};
+ghost use Rattle.std.specs.Prelude.{◌≡◌, IfOk, IfSome};
 ghost use Rattle.mvt_rings.specs.Rings.{is_larger as has_more, may_hold as could_hold, place as the_place, ring_of as the_ring, rings_from as the_rings, differ as the_differ};
 
 use crate::boxes::{Bounds, bounds_of, meets};
-use crate::nesting::Edge;
-use crate::placing::{Place, band, is_narrow, place_in};
+use crate::clear::{are_in, side_of};
+use crate::nesting::edges_of;
+use crate::placing::{Place, band, length_of, place_in};
 use crate::repeats::{opened, without_repeats};
-use crate::signs::is_negative;
 use mvt_base::Items;
 use mvt_geometry::{Point, twice_area};
 use std::alloc::{AllocError, Global};
@@ -33,21 +32,23 @@ pub(crate) struct Ring {
 }
 
 /// The ring of these points.
-fn ring_of(alloc: Global, index: usize, points: Items<Point>) -> Result<Ring, AllocError>
-    ensures { IfOk result (λ r. r ≡ the_ring index points) }
+#[tactic(auto, unfolding(crate::specs::Placing::is_narrow, crate::specs::Signs::is_negative))]
+fn ring_of(index: usize, points: Items<Point>) -> Ring
+    ensures { result ≡ the_ring index points }
 {
-    let is_narrow = is_narrow(alloc, points.as_slice())?;
-    let size = twice_area(points.as_slice()).unsigned_abs();
-    let is_negative = is_negative(points.as_slice());
-    let bounds = bounds_of(points.as_slice());
-    Ok(Ring {
+    let ring = points.as_slice();
+    let area = twice_area(ring);
+    let size = area.unsigned_abs();
+    let is_narrow = size <= 2 * length_of(ring);
+    let bounds = bounds_of(ring);
+    Ring {
         index,
         points,
         size,
-        is_negative,
+        is_negative: area < 0,
         is_narrow,
         bounds,
-    })
+    }
 }
 
 /// All rings, without repeated points and without last points that equal the first.
@@ -57,8 +58,7 @@ pub(crate) fn rings_of(alloc: Global, parts: &[Items<Point>]) -> Result<Vec<Ring
     let mut rings = Vec::with_capacity(alloc, parts.len())?;
     for (index, part) in parts.iter().enumerate() {
         let apart = without_repeats(alloc, part.as_slice())?;
-        let open = opened(alloc, apart.as_slice())?;
-        rings.push(ring_of(alloc, index, open)?)?;
+        rings.push(ring_of(index, opened(apart.into_vec())))?;
     }
     Ok(rings)
 }
@@ -80,24 +80,48 @@ pub(crate) fn may_hold(outer: &Ring, ring: &Ring) -> bool
     is_larger(outer, ring) && meets(outer.bounds, ring.bounds)
 }
 
-fn differ(a: bool, b: bool) -> bool
+#[inline]
+pub(crate) fn differ(a: bool, b: bool) -> bool
     ensures { result ≡ the_differ a b }
 {
     if a { !b } else { b }
 }
 
-/// Where a ring, which has these edges, lies as to one that may hold it.
-#[tactic(auto, unfolding(crate::specs::Rings::place))]
-pub(crate) fn place(
-    alloc: Global,
-    outer: &Ring,
-    ring: &Ring,
-    edges: &[Edge],
-) -> Result<Place, AllocError>
-    requires { edges.now ≡ the_edges ring.now.points }
+/// Where a ring lies as to one that may hold it.
+pub(crate) fn place(alloc: Global, outer: &Ring, ring: &Ring) -> Result<Place, AllocError>
     ensures { IfOk result (λ r. r ≡ the_place outer.now ring.now) }
 {
+    match place_away(outer, ring) {
+        Some(place) => Ok(place),
+        None => place_near(alloc, outer, ring),
+    }
+}
+
+/// Where a ring lies as to one that comes near its box nowhere; None where that may do so.
+fn place_away(outer: &Ring, ring: &Ring) -> Option<Place>
+    ensures { IfSome result (λ r. r ≡ the_place outer.now ring.now) }
+{
+    let points = ring.points.as_slice();
+    let [first, ..] = points else {
+        return None;
+    };
+    if !are_in(ring.bounds, points) {
+        return None;
+    }
+    match side_of(ring.bounds, *first, outer.points.as_slice()) {
+        Some(true) => Some(Place::Held),
+        Some(false) => Some(Place::Apart),
+        None => None,
+    }
+}
+
+/// Where a ring lies as to any other one that may hold it.
+#[tactic(auto, unfolding(crate::specs::Rings::place))]
+fn place_near(alloc: Global, outer: &Ring, ring: &Ring) -> Result<Place, AllocError>
+    ensures { IfOk result (λ r. r ≡ the_place outer.now ring.now) }
+{
+    let edges = edges_of(alloc, ring.points.as_slice())?;
     let level = band(alloc, ring.bounds, outer.points.as_slice())?;
     let against = differ(outer.is_negative, ring.is_negative);
-    Ok(place_in(&level, edges, ring.is_narrow, against))
+    Ok(place_in(&level, &edges, ring.is_narrow, against))
 }
