@@ -15,16 +15,18 @@ use std::alloc::{AllocError, Global};
 /// The most points of a line or a ring: 2^29.
 const MOST_POINTS: usize = 536_870_912;
 
-/// The integers that draw lines or rings; None where one can't be drawn.
+/// The integers that draw lines or rings, of which about so many are expected; None where one can't
+/// be drawn.
 pub(crate) fn write_parts(
     alloc: Global,
     is_ring: bool,
+    expected: usize,
     parts: &[Kept],
 ) -> Result<Option<Vec<u32>>, AllocError>
     ensures { IfOk result (λ r. option_map (λ v. v.items) r
         ≡ drawn_parts is_ring (points_of parts.now)) }
 {
-    let mut integers = Vec::new(alloc);
+    let mut integers = Vec::with_capacity(alloc, expected)?;
     let mut cursor = Point { x: 0, y: 0 };
     for part in parts {
         let points = part.points.as_slice();

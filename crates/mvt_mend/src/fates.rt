@@ -1,10 +1,10 @@
 //! What became of the lines or rings of a geometry.
-ghost use Rattle.std.specs.Prelude.{◌≡◌, IfOk, OnOk, map};
-ghost use Rattle.mvt_mend.specs.Changes.{all_gone as are_all_gone, fate_at as the_fate_at, fate_of as the_fate, fates_after, fates_of as the_fates, gone as is_gone};
+ghost use Rattle.std.specs.Prelude.{◌≡◌, IfOk};
+ghost use Rattle.mvt_mend.specs.Changes.{all_gone as are_all_gone, fate_at as the_fate_at, fate_of as the_fate, fates_of as the_fates, gone as is_gone};
 
 use mvt_base::Items;
-use mvt_geometry::Point;
-use mvt_rings::{Kept, is_negative, is_positive};
+use mvt_geometry::{Point, twice_area};
+use mvt_rings::Kept;
 use std::alloc::{AllocError, Global};
 
 /// What became of a line or ring: its place among those that stay, counted from 1, or 0 where it is
@@ -67,14 +67,16 @@ fn all_gone(alloc: Global, parts: &[Items<Point>]) -> Result<Vec<Fate>, AllocErr
     Ok(fates)
 }
 
+#[tactic(auto, unfolding(mvt_rings::specs::Signs::is_positive, mvt_rings::specs::Signs::is_negative))]
 fn fate_of(place: usize, part: &Kept) -> Fate
     ensures { result ≡ the_fate place part.now }
 {
     let points = part.points.as_slice();
+    let area = twice_area(points);
     Fate {
         place,
         points: points.len(),
-        is_positive: is_positive(points),
-        is_negative: is_negative(points),
+        is_positive: area > 0,
+        is_negative: area < 0,
     }
 }

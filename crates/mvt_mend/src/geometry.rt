@@ -1,8 +1,7 @@
 //! A geometry mended.
 ghost use Rattle.std.specs.Prelude.{◌≡◌, ◌+◌, true, false, option_map, IfOk, IfErr, OnOk};
-ghost use Rattle.mvt_mend.specs.Geometry.{is_faultless as has_no_fault, if_drawn as drawn_or_nothing, if_kept, kept_in as the_kept, points_of as the_points, outcome as the_outcome, outcome_as as the_outcome_as, mended_geometry, geometry_steps, steps_read};
+ghost use Rattle.mvt_mend.specs.Geometry.{is_faultless as has_no_fault, if_kept, outcome as the_outcome, outcome_as as the_outcome_as, mended_geometry, geometry_steps};
 ghost use Rattle.mvt_rings.specs.Steps.{IsEnded};
-ghost use Rattle.mvt_rings.specs.Mending.{mending_steps};
 
 use crate::drawing::write_parts;
 use crate::reading::read_parts;
@@ -87,7 +86,7 @@ fn lines_outcome(alloc: Global, integers: &[u32]) -> Result<Outcome, AllocError>
         return Ok(Outcome::Stays);
     };
     let kept = mend_lines(alloc, parts.as_slice())?;
-    drawn(alloc, Kind::LineString, false, parts, kept)
+    drawn(alloc, Kind::LineString, false, integers.len(), parts, kept)
 }
 
 /// The same of rings.
@@ -108,22 +107,30 @@ fn rings_outcome(alloc: Global, integers: &[u32], left: &mut u64) -> Result<Outc
     let MendedRings { rings, left: rest } = made;
     *left = rest;
     match rings {
-        Ok(kept) => Ok(drawn(alloc, Kind::Polygon, true, parts, kept)?),
+        Ok(kept) => Ok(drawn(
+            alloc,
+            Kind::Polygon,
+            true,
+            integers.len(),
+            parts,
+            kept,
+        )?),
         Err(crossing) => Ok(Outcome::Crosses(crossing)),
     }
 }
 
-/// What comes of lines or rings, of which these stay.
+/// What comes of lines or rings that were so many integers, and of which these stay.
 fn drawn(
     alloc: Global,
     kind: Kind,
     is_ring: bool,
+    count: usize,
     parts: Vec<Items<Point>>,
     kept: Items<Kept>,
 ) -> Result<Outcome, AllocError>
     ensures { IfOk result (λ r. r ≡ if_kept kind is_ring parts.items (Ok kept)) }
 {
-    let Some(integers) = write_parts(alloc, is_ring, kept.as_slice())? else {
+    let Some(integers) = write_parts(alloc, is_ring, count, kept.as_slice())? else {
         return Ok(Outcome::Stays);
     };
     if !integers.is_empty() && !is_faultless(kind, &integers) {

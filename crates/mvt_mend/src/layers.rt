@@ -5,7 +5,6 @@ ghost use Rattle.mvt_wire.specs.Spelling.{spelled};
 ghost use Rattle.mvt_wire.specs.Split.{split};
 ghost use Rattle.mvt_message.specs.declared.numbers.layer.TheConstants.{FEATURES};
 ghost use Rattle.mvt_rings.specs.Steps.{IsEnded};
-ghost use Rattle.mvt_mend.specs.declared.change.Unmended.TheVariants.{AnotherRule};
 ghost use Rattle.mvt_mend.specs.Changes.{first_cause};
 ghost use Rattle.mvt_mend.specs.Features.{feature_cause, feature_changes, feature_steps, mended_feature};
 ghost use Rattle.mvt_mend.specs.Tiles.{cause_at, cause_from, changes_from, field_as, fields_with, is_layer as has_features, is_whole as splits, layer_cause, layer_changes, layer_steps, mended_layer, payload_fields, steps_at, steps_in, told_at};

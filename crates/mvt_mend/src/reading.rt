@@ -1,5 +1,5 @@
 //! The lines or rings of integers that keep the form of commands (sections 4.3.1 to 4.3.4).
-ghost use Rattle.std.specs.Prelude.{◌≡◌, ◌+◌, ◌*◌, ◌<◌, ◌≤◌, true, false, suc, [], ◌∷◌, length, option_map, not, IfOk, IfSome};
+ghost use Rattle.std.specs.Prelude.{◌≡◌, ◌+◌, ◌*◌, ◌<◌, ◌≤◌, true, false, suc, [], ◌∷◌, length, option_map, IfOk, IfSome};
 ghost use Rattle.mvt_geometry.specs.Shape.{InRange, wide, origin};
 ghost use Rattle.mvt_geometry.specs.Table.{is_outside as lies_outside};
 ghost use Rattle.mvt_mend.specs.Reading.{moved as the_moved, step as the_step, path_in, least_of, count_in, begins_line as a_line_begins, has_pairs as pairs_are_there, after_part as the_rest, part_in, parts_after, parts_in};

@@ -1,5 +1,5 @@
 //! What is changed of a geometry that is mended, or why it isn't.
-ghost use Rattle.std.specs.Prelude.{◌≡◌, ◌+◌, ◌++◌, ◌<◌, ◌≤◌, [], length, option_map, IfOk, IfErr, OnOk};
+ghost use Rattle.std.specs.Prelude.{◌≡◌, ◌+◌, ◌++◌, ◌<◌, ◌≤◌, [], option_map, IfOk, IfErr, OnOk};
 ghost use Rattle.mvt_mend.specs.Changes.{cause_of as the_cause, changes_of, count_points as the_count, first_cause as the_first_cause, is_turned as became_turned, move_told, repeats_told, told_from, told_of, told_remade, turn_told, with_staying as the_with_staying};
 ghost use Rattle.mvt_mend.specs.Geometry.{geometry_steps, mended_geometry, outcome as the_outcome};
 ghost use Rattle.mvt_rings.specs.Steps.{IsEnded};
@@ -199,7 +199,7 @@ fn tell_turn(
 fn is_turned(ring: &[Point], fate: Fate) -> bool
     ensures { result ≡ became_turned ring.now fate }
 {
-    (is_positive(ring) && fate.is_negative) || (is_negative(ring) && fate.is_positive)
+    (fate.is_negative && is_positive(ring)) || (fate.is_positive && is_negative(ring))
 }
 
 /// Tells where a ring stands, if others stand before it than did.

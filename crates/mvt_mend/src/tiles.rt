@@ -1,5 +1,5 @@
 //! A tile's bytes mended (section 4.1).
-ghost use Rattle.std.specs.Prelude.{◌≡◌, ◌^◌, ◌+◌, ◌<◌, ◌≤◌, ◌==◌, [], ◌++◌, true, if◌then◌else◌, length, IfOk, IfErr, OnOk};
+ghost use Rattle.std.specs.Prelude.{◌≡◌, ◌^◌, ◌+◌, ◌<◌, ◌≤◌, ◌==◌, [], ◌++◌, if◌then◌else◌, length, IfOk, IfErr, OnOk};
 ghost use Rattle.mvt_wire.specs.Field.{content_of, entry_of};
 ghost use Rattle.mvt_wire.specs.Spelling.{spelled};
 ghost use Rattle.mvt_wire.specs.Split.{split};
