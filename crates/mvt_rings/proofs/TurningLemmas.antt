@@ -1,12 +1,13 @@
--- A turned ring has the opposite area.
-use Rattle.std.proofs.Common.{arith, ◌≡◌, Bool, true, false, ℤ, pos, neg_ℤ, ◌+ℤ◌, ◌-ℤ◌, ◌*ℤ◌, ◌≤ℤ◌, ◌<ℤ◌, List, [], ◌∷◌, ◌++◌, reverse, refl, sym, ap, ap₂, subst, ◌∙◌, ◌&&◌}
+-- A turned ring has the opposite area, and one without repeated points the same.
+use Rattle.std.proofs.Common.{arith, ◌≡◌, ℕ, Bool, true, false, ℤ, pos, neg_ℤ, ◌+ℤ◌, ◌-ℤ◌, ◌*ℤ◌, ◌≤ℤ◌, ◌<ℤ◌, List, [], ◌∷◌, ◌++◌, reverse, refl, sym, ap, ap₂, subst, ◌∙◌, ◌&&◌}
 use Rattle.std.specs.Prelude.{if◌then◌else◌}
 use Rattle.std.specs.Ordering.{int_eq}
 use Rattle.std.proofs.lemmas.Int.{ints, by_lt_z}
 use Rattle.std.proofs.lemmas.List.{reverse-append}
 use Rattle.mvt_geometry.specs.declared.shape.Point.{Point}
 use Rattle.mvt_geometry.specs.Area.{cross, crosses, area2}
-use Rattle.mvt_rings.specs.Repeats.{is_same, past}
+use Rattle.mvt_rings.specs.Repeats.{is_long, is_same, others_after, past, without_repeats}
+use Rattle.mvt_rings.specs.Mending.{begins_negative, kept_from}
 use Rattle.mvt_rings.specs.Turning.{turned, as_exterior, as_interior}
 use Rattle.mvt_rings.specs.Signs.{is_positive, is_negative}
 use Rattle.std.specs.Int.Signed.{lt_z}
@@ -78,20 +79,39 @@ same_point p q e =
 nothing_more : (a b c : ℤ) → b ≡ c → b ≡ (a -ℤ a) +ℤ c
 nothing_more a b c e = omega (arith, ints)
 
-still : (p q : Point) (xs : List Point) (z : ℤ) → p ≡ q → z ≡ walk (p ∷ (xs ++ p ∷ [])) → z ≡ cross p q +ℤ walk (q ∷ (xs ++ p ∷ []))
-still p q xs z e h =
-    subst (λ r. z ≡ cross p r +ℤ walk (r ∷ (xs ++ p ∷ []))) e (nothing_more (p.x *ℤ p.y) z _ h)
+still : (p q : Point) (more : List Point) (z : ℤ) → p ≡ q → z ≡ walk (p ∷ more) → z ≡ cross p q +ℤ walk (q ∷ more)
+still p q more z e h = subst (λ r. z ≡ cross p r +ℤ walk (r ∷ more)) e (nothing_more (p.x *ℤ p.y) z _ h)
 
 past_one : (b : Bool) (p q : Point) (xs : List Point) → is_same p q ≡ b
     → walk (p ∷ (past p xs ++ p ∷ [])) ≡ walk (p ∷ (xs ++ p ∷ []))
     → walk (p ∷ ((if b then past p xs else q ∷ xs) ++ p ∷ [])) ≡ walk (p ∷ ((q ∷ xs) ++ p ∷ []))
 unfolding walk
-past_one true p q xs e before = still p q xs _ (same_point p q e) before
+past_one true p q xs e before = still p q (xs ++ p ∷ []) _ (same_point p q e) before
 past_one false p q xs e before = refl
 
 past_walk : (p : Point) (xs : List Point) → walk (p ∷ (past p xs ++ p ∷ [])) ≡ walk (p ∷ (xs ++ p ∷ []))
 past_walk p [] = refl
 past_walk p (q ∷ xs) = past_one (is_same p q) p q xs refl (past_walk p xs)
+
+others_one : (b : Bool) (p q : Point) (xs end : List Point) → is_same p q ≡ b
+    → walk (p ∷ (others_after p xs ++ end)) ≡ walk (p ∷ (xs ++ end))
+    → walk (q ∷ (others_after q xs ++ end)) ≡ walk (q ∷ (xs ++ end))
+    → walk (p ∷ ((if b then others_after p xs else q ∷ others_after q xs) ++ end)) ≡ walk (p ∷ ((q ∷ xs) ++ end))
+unfolding walk
+others_one true p q xs end e here next = still p q (xs ++ end) _ (same_point p q e) here
+others_one false p q xs end e here next = ap (λ z. cross p q +ℤ z) next
+
+others_walk : (p : Point) (xs end : List Point) → walk (p ∷ (others_after p xs ++ end)) ≡ walk (p ∷ (xs ++ end))
+others_walk p [] end = refl
+others_walk p (q ∷ xs) end = others_one (is_same p q) p q xs end refl (others_walk p xs end) (others_walk q xs end)
+
+repeats_area : (ring : List Point) → area2 (without_repeats ring) ≡ area2 ring
+repeats_area [] = refl
+repeats_area (p ∷ ps) = area_walk p (others_after p ps) ∙ (others_walk p ps (p ∷ []) ∙ sym (area_walk p ps))
+
+repeats_negative : (ring : List Point) → is_negative (without_repeats ring) ≡ is_negative ring
+unfolding is_negative
+repeats_negative ring = ap (λ z. lt_z z (pos 0)) (repeats_area ring)
 
 turned_sum : (ring : List Point) → area2 (turned ring) +ℤ area2 ring ≡ pos 0
 turned_sum [] = refl
@@ -131,3 +151,8 @@ interior_area ring =
     (λ low. let yes : lt_z (pos 0) (area2 ring) ≡ true = grind (arith, ints) in
     rw yes (no_more (area2 (turned ring)) (area2 ring) (turned_area ring) low))
     (λ high. let no : lt_z (pos 0) (area2 ring) ≡ false = grind (arith, ints) in rw no high)
+
+-- the first ring that stays tells whether rings are told
+pub first_long : (n : ℕ) (ring : List Point) (rings : List (List Point)) → is_long 3 (without_repeats ring) ≡ true
+    → is_negative ring ≡ begins_negative (kept_from 3 n (ring ∷ rings))
+first_long n ring rings long = rw long (sym (repeats_negative ring))

@@ -5,7 +5,7 @@ ghost use Rattle.mvt_rings.specs.Steps.{IsEnded};
 
 use crate::holding::Crossing;
 use crate::homes::told;
-use crate::repeats::without_repeats;
+use crate::repeats::{is_long, without_repeats};
 use crate::rings::{Kept, rings_of};
 use crate::signs::is_negative;
 use crate::steps::{Ended, spend_all};
@@ -55,7 +55,7 @@ pub fn mend_rings(alloc: Global, rings: &[Items<Point>], left: u64) -> Result<Me
     ensures left { IfOk result (λ r. r.left + mending_steps rings.now ≡ left) }
     ensures ended { IfErr result (λ e. IsEnded e left (mending_steps rings.now)) }
 {
-    if !begin_negative(alloc, rings)? {
+    if !begin_negative(rings) {
         let kept = keep_long(alloc, rings, 3)?;
         return Ok(MendedRings {
             rings: Ok(Items::new(kept)),
@@ -83,14 +83,14 @@ fn keep_long(alloc: Global, parts: &[Items<Point>], least: usize) -> Result<Vec<
 }
 
 /// Whether the first ring that stays has negative area.
-fn begin_negative(alloc: Global, rings: &[Items<Point>]) -> Result<bool, AllocError>
-    ensures { IfOk result (λ r. r ≡ begins_negative (the_kept 3 0 rings.now)) }
+fn begin_negative(rings: &[Items<Point>]) -> bool
+    ensures { result ≡ begins_negative (the_kept 3 0 rings.now) }
 {
     for ring in rings {
-        let points = without_repeats(alloc, ring.as_slice())?;
-        if points.as_slice().len() >= 3 {
-            return Ok(is_negative(points.as_slice()));
+        let points = ring.as_slice();
+        if is_long(3, points) {
+            return is_negative(points);
         }
     }
-    Ok(false)
+    false
 }
