@@ -31,6 +31,7 @@ pub(crate) struct MendedBytes {
 /// # Errors
 ///
 /// When memory runs out, or when telling rings takes too many steps.
+#[tactic(auto, unfolding(crate::specs::Tiles::changes_in, crate::specs::Tiles::cause_in, crate::specs::Tiles::tile_steps, crate::specs::Tiles::is_long_winded))]
 pub(crate) fn mend_bytes(alloc: Global, bytes: &[u8]) -> Result<MendedBytes, Ended>
     ensures changes { IfOk result (λ made. made.told.changes.items ≡ changes_in bytes.now) }
     ensures cause { IfOk result (λ made. made.told.cause ≡ cause_in bytes.now) }
@@ -38,19 +39,6 @@ pub(crate) fn mend_bytes(alloc: Global, bytes: &[u8]) -> Result<MendedBytes, End
         → mended bytes.now ≡ bytes.now) }
     ensures bytes { IfOk result (λ made. 0 < length made.told.changes.items
         → mended bytes.now ≡ made.bytes.items) }
-    ensures ended { IfErr result (λ e. StopsMending e bytes.now) }
-{
-    let made = mend_all(alloc, bytes)?;
-    Ok(made)
-}
-
-/// The same, as it is made.
-#[tactic(auto, unfolding(crate::specs::Tiles::changes_in, crate::specs::Tiles::cause_in, crate::specs::Tiles::tile_steps, crate::specs::Tiles::is_long_winded))]
-fn mend_all(alloc: Global, bytes: &[u8]) -> Result<MendedBytes, Ended>
-    ensures changes { IfOk result (λ made. made.told.changes.items ≡ changes_in bytes.now) }
-    ensures cause { IfOk result (λ made. made.told.cause ≡ cause_in bytes.now) }
-    ensures bytes { IfOk result (λ made. 0 < length made.told.changes.items → made.bytes.items
-        ≡ spelled (fields_with as_layer LAYERS (split bytes.now).fields)) }
     ensures ended { IfErr result (λ e. StopsMending e bytes.now) }
 {
     let mut made = MendedBytes {
