@@ -12,3 +12,5 @@ pub mod FieldsLemmas
 mod MendedTileLemmas
 mod CauseLemmas
 mod StayLemmas
+mod FieldListLemmas
+mod ElseLemmas

@@ -8,3 +8,4 @@ pub mod Features
 pub mod Tiles
 pub mod Mendable
 pub mod ChangeLines
+pub mod Stays

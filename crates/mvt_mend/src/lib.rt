@@ -11,6 +11,7 @@ pub mod laws;
 mod layers;
 mod lines;
 mod reading;
+pub mod stays;
 mod telling;
 mod tile;
 mod tiles;
