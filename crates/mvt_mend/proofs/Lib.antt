@@ -14,3 +14,4 @@ mod CauseLemmas
 mod StayLemmas
 mod FieldListLemmas
 mod ElseLemmas
+mod AgainLemmas

@@ -7,3 +7,4 @@ pub use Rattle.mvt_mend.proofs.SmallLemmas.{mended_draws}
 pub use Rattle.mvt_mend.proofs.MendedTileLemmas.{long_cause, long_stays}
 pub use Rattle.mvt_mend.proofs.StayLemmas.{tile_stays_bytes, tile_stays_changes}
 pub use Rattle.mvt_mend.proofs.ElseLemmas.{feature_else as else_stays_feature, layer_else as else_stays_layer, layer_places as else_stays_features, not_layer as else_stays_other, tile_else as else_stays_tile, tile_places as else_stays_layers}
+pub use Rattle.mvt_mend.proofs.AgainLemmas.{again_bytes as mended_again_bytes, again_changes as mended_again_changes, same_changes as mended_again_told}

@@ -36,7 +36,7 @@ numbers_listed (bytes d) numbers are =
     (sym (list_numbers d) ∙ rw found.0 refl, found.1)
 numbers_listed (fixed32 n) numbers are = elim are [ ]
 
-joined_listed : (before : List ℕ) (fields : List Entry) (numbers : List ℕ) → Joined (only GEOMETRY fields) numbers
+pub joined_listed : (before : List ℕ) (fields : List Entry) (numbers : List ℕ) → Joined (only GEOMETRY fields) numbers
     → integers_after before fields ≡ Some (before ++ numbers)
 joined_listed before [] numbers are = rw (are, append-nil) refl
 joined_listed before (x ∷ xs) numbers are =

@@ -6,7 +6,7 @@ ghost use Rattle.mvt_message.specs.declared.numbers.layer.TheConstants.{FEATURES
 ghost use Rattle.mvt_tile_value.specs.declared.numbers.tile.TheConstants.{LAYERS};
 ghost use Rattle.mvt_mend.specs.Features.{mended_feature};
 ghost use Rattle.mvt_mend.specs.Stays.{AreBut, IsFeatureBut, IsLayerBut, fields_of};
-ghost use Rattle.mvt_mend.specs.Tiles.{as_layer, fields_with, is_layer, mended, mended_layer};
+ghost use Rattle.mvt_mend.specs.Tiles.{as_layer, changes_in, fields_with, is_layer, mended, mended_layer};
 
 /// Of a feature that is mended all but the geometry stays, of a layer all but the features, and of
 /// a tile all but the layers: what memory can hold of them is spelled, and read, as it was. In a
@@ -28,4 +28,13 @@ pub fn else_stays()
     ensures layers { (input : List ℕ) → AreBytes input → length (mended input) < 2 ^ 64
         → (mended input ≡ input)
         ⊎ (fields_of (mended input) ≡ fields_with as_layer LAYERS (split input).fields) }
+{}
+
+/// Mending bytes twice is mending them once: the second time nothing is changed, and so nothing is
+/// told. Where the bytes stay the first time nothing is told either.
+pub fn mended_again()
+    ensures bytes { (input : List ℕ) → AreBytes input → mended (mended input) ≡ mended input }
+    ensures changes { (input : List ℕ) → AreBytes input → changes_in (mended input) ≡ [] }
+    ensures told { (input : List ℕ) → AreBytes input → mended input ≡ input
+        → changes_in input ≡ [] }
 {}
