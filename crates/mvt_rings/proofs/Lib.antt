@@ -24,3 +24,4 @@ mod ClearLemmas
 mod AwayLemmas
 mod PlaceLemmas
 mod LargerLemmas
+mod CrossingLemmas

@@ -14,3 +14,4 @@ pub mod Origins
 pub mod EvenOdd
 pub mod Bands
 pub mod Clear
+pub mod Crossings

@@ -5,6 +5,7 @@
 
 mod boxes;
 mod clear;
+pub mod crossings;
 mod holding;
 mod homes;
 pub mod laws;
