@@ -15,3 +15,8 @@ mod StayLemmas
 mod FieldListLemmas
 mod ElseLemmas
 mod AgainLemmas
+mod WholeLemmas
+mod KeptLemmas
+mod ToldLemmas
+mod FateLemmas
+mod RemadeLemmas

@@ -9,3 +9,4 @@ pub mod Tiles
 pub mod Mendable
 pub mod ChangeLines
 pub mod Stays
+pub mod Whole

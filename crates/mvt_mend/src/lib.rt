@@ -15,6 +15,7 @@ pub mod stays;
 mod telling;
 mod tile;
 mod tiles;
+pub mod whole;
 
 pub use change::{Change, Unmended};
 pub use geometry::{MOST_STEPS, mend_geometry};
