@@ -20,3 +20,4 @@ mod KeptLemmas
 mod ToldLemmas
 mod FateLemmas
 mod RemadeLemmas
+mod HeldCauseLemmas

@@ -9,3 +9,4 @@ pub use Rattle.mvt_mend.proofs.StayLemmas.{tile_stays_bytes, tile_stays_changes}
 pub use Rattle.mvt_mend.proofs.ElseLemmas.{feature_else as else_stays_feature, layer_else as else_stays_layer, layer_places as else_stays_features, not_layer as else_stays_other, tile_else as else_stays_tile, tile_places as else_stays_layers}
 pub use Rattle.mvt_mend.proofs.AgainLemmas.{again_bytes as mended_again_bytes, again_changes as mended_again_changes, same_changes as mended_again_told}
 pub use Rattle.mvt_mend.proofs.RemadeLemmas.{spells_both as points_are_told_spelled, points_are_told as points_are_told_points, turned_told as changes_are_whole_turned, moved_told as changes_are_whole_moved, fewer_told as changes_are_whole_repeated, gone_told as changes_are_whole_gone, left_told as changes_are_whole_left_out}
+pub use Rattle.mvt_mend.proofs.HeldCauseLemmas.{cross_there as cause_holds_cross, many_steps as cause_holds_steps, none_crosses as cause_holds_uncrossed, few_steps as cause_holds_few_steps}

@@ -10,3 +10,4 @@ pub mod Mendable
 pub mod ChangeLines
 pub mod Stays
 pub mod Whole
+pub mod Causes

@@ -2,6 +2,7 @@
 //! and a first ring of negative area (Mapbox Vector Tile Specification 2.1, 4.3.3.2 and 4.3.4.4).
 #![tactic(auto)]
 
+pub mod causes;
 mod change;
 mod drawing;
 mod fates;
