@@ -25,3 +25,5 @@ mod AwayLemmas
 mod PlaceLemmas
 mod LargerLemmas
 mod CrossingLemmas
+mod LongLemmas
+mod FirstLemmas

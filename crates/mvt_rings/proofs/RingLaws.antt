@@ -8,3 +8,5 @@ pub use Rattle.mvt_rings.proofs.SignsSayLemmas.{signs_say_even_odd}
 pub use Rattle.mvt_rings.proofs.BandLemmas.{band_tells}
 pub use Rattle.mvt_rings.proofs.LargerLemmas.{larger_irreflexive as larger_orders_irreflexive, larger_transitive as larger_orders_transitive, larger_total as larger_orders_total, ring_index as larger_orders_numbered}
 pub use Rattle.mvt_rings.proofs.CrossingLemmas.{crossing_holds as crossing_holds_holds, told_uncrossed as crossing_holds_only}
+pub use Rattle.mvt_rings.proofs.LongLemmas.{rings_are_long}
+pub use Rattle.mvt_rings.proofs.FirstLemmas.{told_begins}

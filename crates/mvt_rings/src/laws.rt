@@ -82,3 +82,16 @@ pub fn larger_orders()
     ensures numbered { (n : ℕ) (rings : List (List Point)) (i : ℕ) (d : Ring) → i < length rings
         → (slice_index_or (rings_from n rings) i d).index ≡ n + i }
 {}
+
+/// Each ring that stays has three points at least.
+pub fn rings_are_long()
+    ensures { (rings : List (List Point)) (kept : List Kept) → mended_rings rings ≡ Ok kept
+        → AllByRecursion (λ k. 3 ≤ length k.points) kept }
+{}
+
+/// Where rings are told none of negative area comes first.
+pub fn told_begins()
+    ensures { (rings : List (List Point)) (kept : List Kept)
+        → begins_negative (kept_from 3 0 rings) ≡ true → mended_rings rings ≡ Ok kept
+        → begins_negative kept ≡ false }
+{}
