@@ -2,7 +2,7 @@
 """The links of PROVED.md to contracts: contracts.py [--write]
 
 A link reads [`NAME`](../crates/CRATE/src/FILE#LN) and leads to the line where NAME is declared in that crate; `laws::NAME`
-stands in its src/laws.rt. Without --write the links that lead elsewhere are listed, and the status is 1 where there is one;
+stands in its src/laws.rt, and so for each module. Without --write the links that lead elsewhere are listed, and the status is 1 where there is one;
 with it they are mended, and [`NAME`](CRATE) becomes such a link."""
 
 import re
@@ -17,13 +17,13 @@ DECLARED = r"^\s*pub (?:extern \"C\" )?(?:fn|struct|trait|enum|type) {}\b"
 
 def declared(name, crate):
     """The link to the one line where a crate declares a name."""
-    in_laws = name.startswith("laws::")
+    module, _, alone = name.rpartition("::")
     folder = TOP / "crates" / crate / "src"
-    pattern = re.compile(DECLARED.format(name.removeprefix("laws::")))
+    pattern = re.compile(DECLARED.format(alone))
     found = [
         (path, number)
         for path in sorted(folder.rglob("*.rt"))
-        if (path.name == "laws.rt") == in_laws
+        if (path.stem == module if module else path.name != "laws.rt")
         for number, line in enumerate(path.read_text().split("\n"), 1)
         if pattern.match(line)
     ]
