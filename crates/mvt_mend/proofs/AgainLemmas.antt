@@ -90,7 +90,7 @@ mended_small kind ints n new is =
     let draws = found.1 in subst (AllByRecursion (λ m. m < 2 ^ 32)) (sym draws.spelled) (drawn_small found.0 draws.valid)
 
 -- they stay
-feature_again : (payload : List ℕ) (n : ℕ) (ints : List ℕ) → AreBytes payload → mended_integers payload ≡ Some (n ∷ ints)
+pub feature_again : (payload : List ℕ) (n : ℕ) (ints : List ℕ) → AreBytes payload → mended_integers payload ≡ Some (n ∷ ints)
     → length (with_integers payload (n ∷ ints)) < 2 ^ 64 → mended_integers (with_integers payload (n ∷ ints)) ≡ None
 unfolding mended_integers
 feature_again payload n ints are mends small =

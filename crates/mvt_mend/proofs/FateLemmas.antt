@@ -249,7 +249,7 @@ module _ (layer feature : ℕ) (parts : List (List Point)) (kept : List Kept) (l
   inside = still_inside (length parts) (length (all_gone parts)) kept (sym (length_gone parts)) (all_inside parts kept less)
 
   -- a part that stays, by its fate
-  stands : (i : ℕ) → ((fate_at (fates_of parts kept) i).place == 0) ≡ false
+  pub stands : (i : ℕ) → ((fate_at (fates_of parts kept) i).place == 0) ≡ false
       → (j : ℕ) × (k : Kept) × (slice_get kept j ≡ Some k) × (k.index ≡ i) × (fate_at (fates_of parts kept) i ≡ fate_of (j + 1) k)
   stands i stays =
       let found = fate_of_none parts kept inside i stays in

@@ -15,7 +15,7 @@ use Rattle.mvt_mend.proofs.WholeLemmas.{AreApart, IsLess, total, total_is}
 
 -- ---- no more points
 
-others_few : (p : Point) (points : List Point) → length (others_after p points) ≤ length points
+pub others_few : (p : Point) (points : List Point) → length (others_after p points) ≤ length points
 others_few p [] = omega arith
 others_few p (q ∷ points) = by_test (is_same p q) (others_few p points) (others_few q points)
   where
@@ -24,11 +24,11 @@ others_few p (q ∷ points) = by_test (is_same p q) (others_few p points) (other
     by_test true here there = omega arith
     by_test false here there = omega arith
 
-repeats_few : (points : List Point) → length (without_repeats points) ≤ length points
+pub repeats_few : (points : List Point) → length (without_repeats points) ≤ length points
 repeats_few [] = omega arith
 repeats_few (p ∷ points) = let few = others_few p points in omega arith
 
-past_few : (p : Point) (points : List Point) → length (past p points) ≤ length points
+pub past_few : (p : Point) (points : List Point) → length (past p points) ≤ length points
 past_few p [] = omega arith
 past_few p (q ∷ points) = by_test (is_same p q) (past_few p points)
   where
@@ -49,7 +49,7 @@ turned_few (p ∷ points) =
     let few = past_few p (reverse points) in
     let whole = length-reverse points in omega arith
 
-told_few : (ring points : List Point) → IsToldFrom ring points → length points ≤ length ring
+pub told_few : (ring points : List Point) → IsToldFrom ring points → length points ≤ length ring
 told_few ring points told = elim told [
   | inl same ↦ subst (λ ps. length ps ≤ length ring) (sym same) (omega arith)
   | inr changed ↦ elim changed [

@@ -21,3 +21,4 @@ mod ToldLemmas
 mod FateLemmas
 mod RemadeLemmas
 mod HeldCauseLemmas
+mod SilentLemmas

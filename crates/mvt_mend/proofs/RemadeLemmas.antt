@@ -152,7 +152,7 @@ remade_points kind ring ints layer n remade is few = by_integers remade.integers
         turn : (a b c d : ℕ) → a + b ≡ c → d ≡ b → c ≡ d + a
         turn a b c d first second = omega arith
 
-feature_remade : (payload : List ℕ) (remade : Remade) → feature_outcome payload ≡ Becomes remade
+pub feature_remade : (payload : List ℕ) (remade : Remade) → feature_outcome payload ≡ Becomes remade
     → (ints : List ℕ) × (integers_of payload ≡ Some ints) × IsRemade (kind_in (split payload).fields)
     (has_rings (kind_in (split payload).fields)) ints remade
 unfolding feature_outcome
@@ -164,7 +164,7 @@ feature_remade payload remade h = by_case (integers_of payload) refl h
     by_case None read h = absurd (cc)
     by_case (Some ints) read h = (ints, read, outcome_remade (kind_in (split payload).fields) ints remade h)
 
-remade_told : (layer n : ℕ) (payload : List ℕ) (remade : Remade) → feature_outcome payload ≡ Becomes remade
+pub remade_told : (layer n : ℕ) (payload : List ℕ) (remade : Remade) → feature_outcome payload ≡ Becomes remade
     → feature_changes layer n payload ≡ told_remade layer n remade
 unfolding feature_changes
 remade_told layer n payload remade h = ap (changes_of layer n) h
