@@ -32,10 +32,10 @@ abbrev pub is_home : List ℕ → Ring → Bool
 is_home homes r = slice_index homes r.index == r.index
 
 -- what counts of rings that are exteriors, and of others
-abbrev outer_part : List ℕ → (Ring → ℕ) → Ring → ℕ
+abbrev pub outer_part : List ℕ → (Ring → ℕ) → Ring → ℕ
 outer_part homes v r = if is_home homes r then v r else 0
 
-abbrev inner_part : List ℕ → (Ring → ℕ) → Ring → ℕ
+abbrev pub inner_part : List ℕ → (Ring → ℕ) → Ring → ℕ
 inner_part homes v r = if is_home homes r then 0 else v r
 
 begun_one : (w : Kept → ℕ) (v : Ring → ℕ) (b : Bool) (r : Ring) → w (exterior r) ≡ v r
@@ -49,7 +49,7 @@ begun_more a b c d e = omega arith
 nothing_more : (a : ℕ) → a ≡ a + 0
 nothing_more a = omega arith
 
-begun_spread : (w : Kept → ℕ) (v : Ring → ℕ) → ((r : Ring) → w (exterior r) ≡ v r) → (homes : List ℕ) (ps : List (List Kept))
+pub begun_spread : (w : Kept → ℕ) (v : Ring → ℕ) → ((r : Ring) → w (exterior r) ≡ v r) → (homes : List ℕ) (ps : List (List Kept))
     (rings : List Ring) → spread w (begun_after homes ps rings) ≡ spread w ps + total (outer_part homes v) rings
 begun_spread w v same homes ps [] = nothing_more (spread w ps)
 begun_spread w v same homes ps (r ∷ rings) =
@@ -61,7 +61,7 @@ begun_spread w v same homes ps (r ∷ rings) =
 one_more : (a b c d : ℕ) → a ≡ b + 1 → c ≡ a + d → c ≡ b + suc d
 one_more a b c d e f = omega arith
 
-length-begun_after : (homes : List ℕ) (ps : List (List Kept)) (rings : List Ring)
+pub length-begun_after : (homes : List ℕ) (ps : List (List Kept)) (rings : List Ring)
     → length (begun_after homes ps rings) ≡ length ps + length rings
 length-begun_after homes ps [] = nothing_more (length ps)
 length-begun_after homes ps (r ∷ rings) =
@@ -77,7 +77,7 @@ joined_one : (w : Kept → ℕ) (b : Bool) (v s t : ℕ) (here there : List (Lis
 joined_one w true v s t here there stays more = omega arith
 joined_one w false v s t here there stays more = omega arith
 
-joined_spread : (w : Kept → ℕ) (v : Ring → ℕ) → ((r : Ring) → w (interior r) ≡ v r) → (homes : List ℕ) (ps : List (List Kept))
+pub joined_spread : (w : Kept → ℕ) (v : Ring → ℕ) → ((r : Ring) → w (interior r) ≡ v r) → (homes : List ℕ) (ps : List (List Kept))
     (rings : List Ring) (n : ℕ) → length ps ≡ n → HaveHomes n homes rings
     → spread w (joined homes ps rings) ≡ spread w ps + total (inner_part homes v) rings
 joined_spread w v same homes ps [] n long have = nothing_more (spread w ps)

@@ -27,3 +27,5 @@ mod LargerLemmas
 mod CrossingLemmas
 mod LongLemmas
 mod FirstLemmas
+mod RankLemmas
+mod DrawingLemmas

@@ -38,11 +38,11 @@ if_turned : (count : List Point → ℕ) (b : Bool) (ring : List Point) → coun
 if_turned count true ring same = same
 if_turned count false ring same = refl
 
-count_exterior : (count : List Point → ℕ) → IsCount count → (ring : List Point) → count (as_exterior ring) ≡ count ring
+pub count_exterior : (count : List Point → ℕ) → IsCount count → (ring : List Point) → count (as_exterior ring) ≡ count ring
 unfolding as_exterior
 count_exterior count is ring = if_turned count (is_negative ring) ring (is.turns ring)
 
-count_interior : (count : List Point → ℕ) → IsCount count → (ring : List Point) → count (as_interior ring) ≡ count ring
+pub count_interior : (count : List Point → ℕ) → IsCount count → (ring : List Point) → count (as_interior ring) ≡ count ring
 unfolding as_interior
 count_interior count is ring = if_turned count (is_positive ring) ring (is.turns ring)
 
@@ -51,7 +51,7 @@ count_opened count is part =
     sym (is.turns (opened (without_repeats part)))
     ∙ (ap count (turned-opened (without_repeats part)) ∙ (is.turns (without_repeats part) ∙ is.repeats part))
 
-too_short : (ring : List Point) → is_long 3 ring ≡ false → length ring < 3
+pub too_short : (ring : List Point) → is_long 3 ring ≡ false → length ring < 3
 too_short ring is = grind (arith, nat_tests)
 
 -- rings that stay as they were
@@ -71,7 +71,7 @@ count_kept count is n (part ∷ parts) =
     (λ short. is.short (without_repeats part) (too_short (without_repeats part) short))
     (count_kept count is (n + 1) parts)
 
-count_rings : (count : List Point → ℕ) → IsCount count → (n : ℕ) (parts : List (List Point))
+pub count_rings : (count : List Point → ℕ) → IsCount count → (n : ℕ) (parts : List (List Point))
     → total (λ r. count r.points) (rings_from n parts) ≡ total count parts
 count_rings count is n [] = refl
 count_rings count is n (part ∷ parts) = ap₂ (λ a b. a + b) (count_opened count is part) (count_rings count is (n + 1) parts)

@@ -105,10 +105,10 @@ all_listed h homes (r ∷ rings) (p ∷ ps) before may are =
     (λ last. all_listed h homes rings ps last may.1 are.1)
 
 -- the ring at an index has area
-abbrev HasArea : List Ring → ℕ → Type 0
+abbrev pub HasArea : List Ring → ℕ → Type 0
 HasArea rings i = size_at rings i ≡ 0 → ⊥
 
-sized_from : (all : List Ring) (m : ℕ) (parts : List (List Point))
+pub sized_from : (all : List Ring) (m : ℕ) (parts : List (List Point))
     → AllByRecursion (λ r. size_at all r.index ≡ r.size) (rings_from m parts)
     → AllByRecursion (IsSized (HasArea all)) (rings_from m parts)
 sized_from all m [] are = tt
@@ -117,7 +117,7 @@ sized_from all m (part ∷ parts) are = (
   sized_from all (m + 1) parts are.1,
 )
 
-solid_from : (S : ℕ → Type 0) (rings : List Ring) → AllByRecursion (IsSized S) rings
+pub solid_from : (S : ℕ → Type 0) (rings : List Ring) → AllByRecursion (IsSized S) rings
     → AllByRecursion (λ r. (r.size ≡ 0 → ⊥) → S r.index) rings
 solid_from S [] are = tt
 solid_from S (r ∷ rings) are = (are.0.there, solid_from S rings are.1)
@@ -126,6 +126,24 @@ outer_from : (h : Holders) (homes : List ℕ) (S : ℕ → Type 0) → IsTree h 
     → AllByRecursion (IsSized S) rings → AllByRecursion (λ r. is_home homes r ≡ true → IsOuter h (exterior r)) rings
 outer_from h homes S is [] are = tt
 outer_from h homes S is (r ∷ rings) are = (outer h homes S is r are.0, outer_from h homes S is rings are.1)
+
+-- the homes of rings that are told are a tree
+pub told_tree : (parts : List (List Point)) (kept : List Kept) → (one : Told (rings_from 0 parts) kept)
+    → IsTree one.0 (homes_after one.0 [] 0 (rings_from 0 parts)) (HasArea (rings_from 0 parts))
+told_tree parts kept (h, found, none, same) =
+    let rings = rings_from 0 parts in
+    let homes = homes_after h [] 0 rings in
+    let at = λ (j : ℕ).
+    let this : 0 + j ≡ j = omega arith in
+    ap (slice_index homes) this ∙ ap (λ (xs : List ℕ). slice_index xs j) (homes_tails h [] 0 rings) in
+    record {
+      own = λ i there.
+          let this : 0 + i ≡ i = omega arith in
+          subst (λ j. slice_index homes j ≡ (if slice_index h.counts j % 2 == 0 then j else slice_index h.leasts j)) this
+          (solid_homes h homes 0 0 rings (numbered_from 0 parts) at i there);
+      less = tree h none;
+      solid = least_solid (HasArea rings) rings h (solid_from (HasArea rings) rings (sized_from rings 0 parts (sizes parts))) found;
+    }
 
 told_signs : (parts : List (List Point)) (kept : List Kept) → (one : Told (rings_from 0 parts) kept) → AreEvenOdd one.0 None kept
 unfolding told_by
@@ -139,21 +157,14 @@ told_signs parts kept (h, found, none, same) =
     let at = λ (j : ℕ).
     let this : 0 + j ≡ j = omega arith in
     ap (slice_index homes) this ∙ ap (λ (xs : List ℕ). slice_index xs j) (homes_tails h [] 0 rings) in
-    let is_tree : IsTree h homes S = record {
-      own = λ i there.
-          let this : 0 + i ≡ i = omega arith in
-          subst (λ j. slice_index homes j ≡ (if slice_index h.counts j % 2 == 0 then j else slice_index h.leasts j)) this
-          (solid_homes h homes 0 0 rings numbered at i there);
-      less = tree h none;
-      solid = least_solid S rings h solid found;
-    } in
+    let is_tree = told_tree parts kept (h, found, none, same) in
     let fixed = fixed_homes h homes S is_tree rings numbered at solid in
     let fit = all_join h homes S is_tree rings rings numbered sized sized fixed in
     subst (AreEvenOdd h None) same
     (all_listed h homes rings (joined homes (begun_after homes [] rings) rings) None
     (outer_from h homes S is_tree rings sized) (polygons h homes rings fit))
 
-is_told : (b : Bool) (told other : Result (List Kept) Crossing) (kept : List Kept) → b ≡ true
+pub is_told : (b : Bool) (told other : Result (List Kept) Crossing) (kept : List Kept) → b ≡ true
     → (if b then told else other) ≡ Ok kept → told ≡ Ok kept
 is_told true told other kept is mended = mended
 is_told false told other kept is mended = absurd (cc)

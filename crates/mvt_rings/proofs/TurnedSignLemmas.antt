@@ -25,7 +25,7 @@ size_exterior : (ring : List Point) → size (as_exterior ring) ≡ size ring
 unfolding as_exterior
 size_exterior ring = size_if (is_negative ring) ring
 
-size_interior : (ring : List Point) → size (as_interior ring) ≡ size ring
+pub size_interior : (ring : List Point) → size (as_interior ring) ≡ size ring
 unfolding as_interior
 size_interior ring = size_if (is_positive ring) ring
 

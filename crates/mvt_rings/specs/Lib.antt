@@ -15,3 +15,4 @@ pub mod EvenOdd
 pub mod Bands
 pub mod Clear
 pub mod Crossings
+pub mod Drawings

@@ -6,6 +6,7 @@
 mod boxes;
 mod clear;
 pub mod crossings;
+pub mod drawings;
 mod holding;
 mod homes;
 pub mod laws;
