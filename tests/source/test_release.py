@@ -43,12 +43,12 @@ def clone(tmp_path):
     for name in ("packaging/release", "packaging/version", *version.PLACES):
         (tmp_path / "clone" / name).parent.mkdir(parents=True, exist_ok=True)
         shutil.copy(TOP / name, tmp_path / "clone" / name)
-    subprocess.run(["git", "init", "-q", tmp_path / "clone"], check=True)
     return tmp_path / "clone"
 
 
 def committed(clone):
     named = ["-c", "user.name=a", "-c", "user.email=a@a"]
+    subprocess.run(["git", "init", "-q", clone], check=True)
     subprocess.run(["git", "-C", clone, "add", "."], check=True)
     subprocess.run(["git", "-C", clone, *named, "commit", "-q", "-m", "a"], check=True)
 
@@ -60,26 +60,33 @@ def refused(clone):
 
 
 def test_changes(clone):
+    committed(clone)
+    (clone / "README.md").write_text("# mvt\n")
     assert "aren't committed" in refused(clone)
 
 
 @pytest.mark.parametrize("name, before", PLACES)
-def test_another_version(clone, name, before):
+def test_another_version(name, before):
     """It is told, and written over."""
-    asked(clone, "--write")
-    text = (clone / name).read_text()
+    text = version.differing(name, (TOP / name).read_text())[1]
     other, count = re.subn(f"({before}){version.NUMBER}", r"\g<0>7", text, count=1, flags=re.M)
-    assert count == 1
-    (clone / name).write_text(other)
-    committed(clone)
-    assert f"\n{name}: says " in refused(clone)
-    assert asked(clone, "--write").returncode == 0
-    assert (clone / name).read_text() == text and asked(clone).stdout == ""
+    found, mended = version.differing(name, other)
+    assert count == 1 and mended == text
+    assert found and all(line.startswith(f"{name}: says ") for line in found)
+
+
+def test_all_are_written(clone):
+    (clone / "README.md").write_text((clone / "README.md").read_text().replace(version.VERSION, "7.7.7"))
+    told = asked(clone)
+    assert told.returncode == 1 and f"README.md: says 7.7.7, not {version.VERSION}\n" in told.stdout
+    assert (asked(clone, "--write").returncode, asked(clone).stdout) == (0, "")
 
 
 def test_a_place_that_is_gone(clone):
+    asked(clone, "--write")
     (clone / "README.md").write_text("# mvt\n")
-    assert "README.md: says no version" in asked(clone).stdout
+    committed(clone)
+    assert "\nREADME.md: says no version" in refused(clone)
 
 
 def test_no_head(clone):
