@@ -20,6 +20,11 @@ MEMBERS = 4096
 LINE = 8192
 # A directory of an archive has so many bytes at most, packed and unpacked: those of whole planets have a few million.
 DIRECTORY = 64_000_000
+# An archive has so many entries at most, or else one for each of its bytes: each is a row of the results, and a kilobyte of gzip
+# makes a quarter of a million. Those of the world have a hundredth of that.
+ENTRIES = 100_000
+# A directory is cut into so many slices at most, where parts of the wanted size would be more: each reads it from its front.
+SLICES = 64
 # Leaf directories lie in one another no deeper than this, where one or two are usual, and from so many on that can't be read the
 # rest isn't looked at.
 LEAVES, FAULTS = 8, 100

@@ -25,7 +25,8 @@ import (
 type Option func(*judge)
 
 // Mend has tiles passed on that libmvt.Mend mends: in canonical form, packed as they came, with what was changed in the header
-// Mvt-Mended, such as "RepeatedPoint 1, TurnedRing 12".
+// Mvt-Mended, such as "RepeatedPoint 1, TurnedRing 12". That takes up to thirty times the bytes of the tile, and up to seconds of
+// one made for it.
 func Mend() Option { return func(j *judge) { j.mends = true } }
 
 // New is a handler that hands requests on to a server, and judges each answer of a status from 200 to 299 but 204, which has

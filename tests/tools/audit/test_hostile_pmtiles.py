@@ -154,6 +154,53 @@ def test_a_bomb_of_a_directory_is_told(made):
         audited(made(archive(bomb, internal=2)))
 
 
+def entries(count, first=0, lengths=len(TILE)):
+    """A directory of so many tiles, which all are the same bytes."""
+    columns = bytes([first]) + b"\1" * (count - 1), b"\1" * count, archives.varint(lengths) * count, b"\1" * count
+    return archives.varint(count) + b"".join(columns)
+
+
+def slices(path, size):
+    """Those that an archive's directories are cut into."""
+    store = stores.opened(str(path))
+    store.state()
+    return [each for part in store.ranges(size) for each in part]
+
+
+def test_a_directory_is_cut_into_64_slices_at_most(made):
+    """Each reads it from its front, so that many would take the square of its entries."""
+    path = made(archive(entries(100_000), internal=2))
+    for size, count in ((1, 64), (1000, 64), (2000, 50), (100_000, 1)):
+        found = slices(path, size)
+        assert len(found) <= count and [each.first for each in found[1:]] == [each.end for each in found[:-1]]
+        assert (found[0].first, found[-1].end) == (0, 100_000)
+
+
+def test_a_directory_has_100_000_entries_at_most_or_one_for_each_byte_of_the_archive(made):
+    """From 600 bytes of gzip."""
+    assert slices(made(archive(entries(100_000), internal=2)), 1000)[-1].end == 100_000
+    many = archive(entries(100_001), internal=2)
+    assert len(many) < 1000
+    for ask in (audited, lambda path: listed(path, most=1)):
+        with pytest.raises(StoreError, match="it has 100,001 entries; 100,000 are the most that are read of such an archive"):
+            ask(made(many))
+    assert slices(made(many, 100_001), 1000)[-1].end == 100_001
+
+
+def test_all_directories_have_100_000_entries_at_most_or_one_for_each_byte_of_the_archive(made):
+    """Of four leaves of 30,000 entries, as of any that are one too many, the first ones are read."""
+    packed, pointers = [], []
+    for number in range(4):
+        leaf = archives.varint(30_000) + archives.varint(30_000 * number) + entries(30_000)[4:]
+        packed.append(gzip.compress(leaf))
+        pointers.append((30_000 * number, 0, sum(map(len, packed[:-1])), len(packed[-1])))
+    path = made(archive(archives.directory(pointers), leaves=b"".join(packed), internal=2))
+    store = stores.opened(str(path))
+    assert store.state().tiles == 90_000
+    fault = list(store.ranges(1000))[-1][-1]
+    assert (fault.name, fault.why) == ("directories", "they have more than 100,000 entries, the most that are read of such an archive")
+
+
 # ---- compressions
 
 
@@ -257,7 +304,7 @@ def test_any_header_is_a_header_or_refused(content, size):
 @given(make.binary(max_size=300))
 def test_any_directory_is_entries_or_refused(content):
     try:
-        directory = Directory(content)
+        directory = Directory(content, 1 << 20)
         behind = 0
         for entry in directory.entries():
             assert behind <= entry.tile_id and entry.tile_id + entry.run <= PLACES and entry.length > 0

@@ -91,8 +91,11 @@ class Entry(NamedTuple):
 class Directory:
     """A directory, whose entries are decoded as they are asked for: four columns of varints behind their count."""
 
-    def __init__(self, content: bytes) -> None:
+    def __init__(self, content: bytes, most: int) -> None:
+        """Raises ArchiveError where it isn't as it should be, or has more entries than that."""
         self.count, at = _count(content)
+        if self.count > most:
+            raise ArchiveError(f"it has {self.count:,} entries; {most:,} are the most that are read of such an archive")
         columns = []
         for name in ("tile ids", "run lengths", "lengths", "offsets"):
             end = _behind(content, at, self.count)

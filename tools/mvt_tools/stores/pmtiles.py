@@ -9,7 +9,7 @@ from functools import lru_cache, partial
 from typing import Any, BinaryIO, Callable, Dict, Iterator, List, NamedTuple, Optional, Tuple, Union
 
 from .. import foreign
-from ..bounds import DIRECTORY, FAULTS, FILE, LEAVES, RUN, SAID
+from ..bounds import DIRECTORY, ENTRIES, FAULTS, FILE, LEAVES, RUN, SAID, SLICES
 from . import Address, Content, Key, Options, State, Store, StoreError, files
 from .archive import GZIP, HEADER, MAGIC, MOST_TILES, NONE, ArchiveError, Directory, Entry, Header, Section, unpacked
 from .files import ReadAhead
@@ -88,7 +88,7 @@ class PMTiles(Store):
         return State(min(tiles, MOST_TILES), hashlib.sha256(front + f"{size} {told}".encode()).hexdigest())
 
     def ranges(self, size: int) -> Iterator[Part]:
-        """A part has so many entries, of as many directories as these stand in."""
+        """A part has so many entries, of as many directories as these stand in; or more, of a large directory."""
         part: Part = []
         room = size
         with files.opened(self.path) as file:
@@ -96,10 +96,11 @@ class PMTiles(Store):
                 if isinstance(piece, Fault):
                     part.append(piece)
                     continue
-                while piece.end - piece.first >= room:
-                    part.append(piece._replace(end=piece.first + room))
+                least = -(-piece.end // SLICES)
+                while piece.end - piece.first >= (wanted := max(room, least if least > size else 0)):
+                    part.append(piece._replace(end=piece.first + wanted))
                     yield part
-                    piece = piece._replace(first=piece.first + room)
+                    piece = piece._replace(first=piece.first + wanted)
                     part, room = [], size
                 if piece.first < piece.end:
                     part.append(piece)
@@ -213,7 +214,7 @@ class PMTiles(Store):
         content = unpacked(stored, self.header.internal, DIRECTORY + 1)
         if len(content) > DIRECTORY:
             raise ArchiveError(f"it unpacks to more than {DIRECTORY:,} bytes")
-        return Directory(content)
+        return Directory(content, _most_entries(file))
 
     def _opened(self, file: BinaryIO, where: Where, above: Tuple[Section, ...]) -> Directory:
         """A directory that lies below others. Raises ArchiveError where it can't be read, or doesn't belong there."""
@@ -273,10 +274,20 @@ class PMTiles(Store):
         except ArchiveError as why:
             yield Fault(str(where), str(why))
 
+    def _owned(self, file: BinaryIO) -> Iterator[Union[Own, Fault]]:
+        """All directories, up to as many entries as are read of such an archive."""
+        entries, most = 0, _most_entries(file)
+        for found in self._walked(file, self._root()):
+            entries += found.entries if isinstance(found, Own) else 0
+            if entries > most:
+                yield Fault("directories", f"they have more than {most:,} entries, the most that are read of such an archive")
+                return
+            yield found
+
     def _counted(self, file: BinaryIO) -> int:
         """How many tiles the whole archive has."""
         tiles = faults = 0
-        for found in self._walked(file, self._root()):
+        for found in self._owned(file):
             if isinstance(found, Own):
                 tiles += found.tiles
                 continue
@@ -288,7 +299,7 @@ class PMTiles(Store):
     def _pieces(self, file: BinaryIO) -> Iterator[Union[Slice, Fault]]:
         """The own entries of each directory, and what is wrong with the archive."""
         told, found, faults = self.header.addressed, 0, 0
-        for each in self._walked(file, self._root()):
+        for each in self._owned(file):
             if isinstance(each, Fault):
                 yield each
                 faults += 1
@@ -358,6 +369,11 @@ class PMTiles(Store):
         if isinstance(content, Exception):
             raise OSError(errno.EIO, str(content)) from content
         return content
+
+
+def _most_entries(file: BinaryIO) -> int:
+    """How many entries are read of an archive."""
+    return max(ENTRIES, os.fstat(file.fileno()).st_size)
 
 
 def _checked(key: Key) -> Tuple[int, int]:
