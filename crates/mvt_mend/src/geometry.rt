@@ -107,14 +107,7 @@ fn rings_outcome(alloc: Global, integers: &[u32], left: &mut u64) -> Result<Outc
     let MendedRings { rings, left: rest } = made;
     *left = rest;
     match rings {
-        Ok(kept) => Ok(drawn(
-            alloc,
-            Kind::Polygon,
-            true,
-            integers.len(),
-            parts,
-            kept,
-        )?),
+        Ok(kept) => Ok(drawn(alloc, Kind::Polygon, true, integers.len(), parts, kept)?),
         Err(crossing) => Ok(Outcome::Crosses(crossing)),
     }
 }
