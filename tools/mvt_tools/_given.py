@@ -6,10 +6,8 @@ import sys
 from collections import Counter
 from typing import Any, BinaryIO, Callable, NoReturn, Optional, Sequence, Tuple
 
-from libmvt import MvtError, NoLayer, Refused, TooLarge
-from libmvt._mending import ROW
-from libmvt._mvt import mend_rows
-from libmvt._numbers import CHANGES
+from libmvt import CHANGES, MvtError, NoLayer, Refused, TooLarge
+from libmvt.raw import CHANGE_ROW, mend_rows
 
 from . import bounds
 from ._ending import MEMORY, UNREAD, USAGE, Output, bound_memory, hold_places, of_system, say
@@ -114,7 +112,7 @@ def mended(command: str, tile: bytes) -> bytes:
     """A tile with what is broken mended, in canonical form; a line counts the changes. Raises Refused with the tile's fault where
     it can't be mended, and TooLarge."""
     made, rows = mend_rows(tile)
-    counts = Counter(CHANGES[kind] for kind, *_ in ROW.iter_unpack(rows))
+    counts = Counter(CHANGES[kind] for kind, *_ in CHANGE_ROW.iter_unpack(rows))
     if counts:
         say(command, "mended: " + ", ".join(f"{kind} {count:,}" for kind, count in sorted(counts.items())))
     return made
