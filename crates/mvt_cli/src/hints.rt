@@ -203,11 +203,17 @@ pub fn hint(alloc: Global, file: &str, oddity: Oddity) -> Result<String, AllocEr
         Oddity::Unread(ErrorKind::PermissionDenied) => {
             format!(in alloc; "mvt: {file}: no permission to read it\n")
         }
-        Oddity::Unread(ErrorKind::IsADirectory) => {
-            format!(in alloc; "mvt: {file}: it is a folder: mvt-audit {file} --into audit\n")
-        }
+        Oddity::Unread(ErrorKind::IsADirectory) => folder_hint(alloc, file),
         Oddity::Unread(_) => Ok(String::new(alloc)),
     }
+}
+
+/// The line about a folder whose name is this word.
+fn folder_hint(alloc: Global, file: &str) -> Result<String, AllocError>
+    ensures { IfOk result (λ line. string_bytes line ≡ codes "mvt: " ++ (file.now
+        ++ (codes ": it is a folder: mvt-audit " ++ (file.now ++ codes " --into audit\n")))) }
+{
+    format!(in alloc; "mvt: {file}: it is a folder: mvt-audit {file} --into audit\n")
 }
 
 /// The line about an input that looks like this, whose name is this word.
