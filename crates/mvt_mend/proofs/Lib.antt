@@ -22,3 +22,6 @@ mod FateLemmas
 mod RemadeLemmas
 mod HeldCauseLemmas
 mod SilentLemmas
+mod SoundLemmas
+mod PlacesLemmas
+mod DrawnLemmas

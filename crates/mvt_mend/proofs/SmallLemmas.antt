@@ -26,7 +26,7 @@ true_false : {P : Type 0} → true ≡ false → P
 true_false h = absurd (cc)
 
 -- a number that isn't out of range is in range
-inside_is : (z : ℤ) → is_outside wide z ≡ false → InRange z
+pub inside_is : (z : ℤ) → is_outside wide z ≡ false → InRange z
 inside_is z e =
     by_lt_z z (negsuc 2147483646)
     (λ low. let yes : is_outside wide z ≡ true = grind (arith, ints) in true_false (sym yes ∙ e))

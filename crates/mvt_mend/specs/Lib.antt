@@ -1,6 +1,7 @@
 pub mod Reading
 pub mod Drawing
 pub mod Geometry
+pub mod Sound
 pub mod Origins
 pub mod Spelling
 pub mod Changes

@@ -1,13 +1,16 @@
 //! A geometry mended.
 ghost use Rattle.std.specs.Prelude.{◌≡◌, ◌+◌, true, false, option_map, IfOk, IfErr, OnOk};
 ghost use Rattle.mvt_mend.specs.Geometry.{is_faultless as has_no_fault, if_kept, outcome as the_outcome, outcome_as as the_outcome_as, mended_geometry, geometry_steps};
+ghost use Rattle.std.specs.List.{AllByRecursion};
+ghost use Rattle.mvt_rings.specs.Mending.{begins_negative};
 ghost use Rattle.mvt_rings.specs.Steps.{IsEnded};
+ghost use Rattle.mvt_mend.specs.Sound.{DrawsOnly, IsLong};
 
 use crate::drawing::write_parts;
 use crate::reading::read_parts;
 use mvt_base::Items;
 use mvt_geometry::{Kind, Point, judge_geometry};
-use mvt_rings::{Crossing, Ended, Kept, MendedRings, mend_lines, mend_rings};
+use mvt_rings::{Crossing, Ended, Kept, MendedRings, is_negative, mend_lines, mend_rings};
 use std::alloc::{AllocError, Global};
 
 /// The most steps in which the rings of a tile are told: 2^30, some seconds.
@@ -86,7 +89,15 @@ fn lines_outcome(alloc: Global, integers: &[u32]) -> Result<Outcome, AllocError>
         return Ok(Outcome::Stays);
     };
     let kept = mend_lines(alloc, parts.as_slice())?;
-    drawn(alloc, Kind::LineString, false, integers.len(), parts, kept)
+    drawn(
+        alloc,
+        Kind::LineString,
+        false,
+        integers.len(),
+        false,
+        parts,
+        kept,
+    )
 }
 
 /// The same of rings.
@@ -107,26 +118,40 @@ fn rings_outcome(alloc: Global, integers: &[u32], left: &mut u64) -> Result<Outc
     let MendedRings { rings, left: rest } = made;
     *left = rest;
     match rings {
-        Ok(kept) => Ok(drawn(alloc, Kind::Polygon, true, integers.len(), parts, kept)?),
+        Ok(kept) => {
+            let is_known = are_sound(kept.as_slice());
+            Ok(drawn(
+                alloc,
+                Kind::Polygon,
+                true,
+                integers.len(),
+                is_known,
+                parts,
+                kept,
+            )?)
+        }
         Err(crossing) => Ok(Outcome::Crosses(crossing)),
     }
 }
 
-/// What comes of lines or rings that were so many integers, and of which these stay.
+/// What comes of lines or rings that were so many integers, and of which these stay. Are these known
+/// to draw a geometry where they can be drawn, it isn't asked.
 fn drawn(
     alloc: Global,
     kind: Kind,
     is_ring: bool,
     count: usize,
+    is_known: bool,
     parts: Vec<Items<Point>>,
     kept: Items<Kept>,
 ) -> Result<Outcome, AllocError>
+    requires { is_known ≡ true → DrawsOnly kind is_ring kept }
     ensures { IfOk result (λ r. r ≡ if_kept kind is_ring parts.items (Ok kept)) }
 {
     let Some(integers) = write_parts(alloc, is_ring, count, kept.as_slice())? else {
         return Ok(Outcome::Stays);
     };
-    if !integers.is_empty() && !is_faultless(kind, &integers) {
+    if !is_known && !integers.is_empty() && !is_faultless(kind, &integers) {
         return Ok(Outcome::Stays);
     }
     Ok(Outcome::Becomes(Remade {
@@ -134,6 +159,31 @@ fn drawn(
         kept,
         integers: Items::new(integers),
     }))
+}
+
+/// Whether rings that stay have three points each, and the first no negative area.
+fn are_sound(kept: &[Kept]) -> bool
+    ensures long { result ≡ true → AllByRecursion IsLong kept.now }
+    ensures first { result ≡ true → begins_negative kept.now ≡ false }
+{
+    if let [first, ..] = kept {
+        if is_negative(first.points.as_slice()) {
+            return false;
+        }
+    }
+    are_long(kept)
+}
+
+/// Whether rings have three points each.
+fn are_long(kept: &[Kept]) -> bool
+    ensures { result ≡ true → AllByRecursion IsLong kept.now }
+{
+    for part in kept {
+        if part.points.as_slice().len() < 3 {
+            return false;
+        }
+    }
+    true
 }
 
 /// Whether the integers draw a geometry.
