@@ -1,9 +1,9 @@
 #!/usr/bin/env python3
 """The links of PROVED.md to contracts: contracts.py [--write]
 
-A link reads [`NAME`](../crates/CRATE/src/FILE#LN) and leads to the line where NAME is declared in that crate; `laws::NAME`
-stands in its src/laws.rt, and so for each module. Without --write the links that lead elsewhere are listed, and the status is 1 where there is one;
-with it they are mended, and [`NAME`](CRATE) becomes such a link."""
+A link reads [`NAME`](../crates/CRATE/src/FILE#LN) and leads to the line where NAME is declared in that crate; FILE::NAME,
+as laws are linked, stands in its src/FILE.rt. Without --write the links that lead elsewhere are listed, and the status is 1
+where there is one; with it they are mended, and [`NAME`](CRATE) becomes such a link."""
 
 import re
 import sys
@@ -17,13 +17,13 @@ DECLARED = r"^\s*pub (?:extern \"C\" )?(?:fn|struct|trait|enum|type) {}\b"
 
 def declared(name, crate):
     """The link to the one line where a crate declares a name."""
-    module, _, alone = name.rpartition("::")
+    file, _, item = name.rpartition("::")
     folder = TOP / "crates" / crate / "src"
-    pattern = re.compile(DECLARED.format(alone))
+    pattern = re.compile(DECLARED.format(item))
     found = [
         (path, number)
         for path in sorted(folder.rglob("*.rt"))
-        if (path.stem == module if module else path.name != "laws.rt")
+        if (path.stem == file if file else path.name != "laws.rt")
         for number, line in enumerate(path.read_text().split("\n"), 1)
         if pattern.match(line)
     ]
