@@ -11,3 +11,4 @@ pub use Rattle.mvt_mend.proofs.AgainLemmas.{again_bytes as mended_again_bytes, a
 pub use Rattle.mvt_mend.proofs.RemadeLemmas.{spells_both as points_are_told_spelled, points_are_told as points_are_told_points, turned_told as changes_are_whole_turned, moved_told as changes_are_whole_moved, fewer_told as changes_are_whole_repeated, gone_told as changes_are_whole_gone, left_told as changes_are_whole_left_out}
 pub use Rattle.mvt_mend.proofs.HeldCauseLemmas.{cross_there as cause_holds_cross, many_steps as cause_holds_steps, none_crosses as cause_holds_uncrossed, few_steps as cause_holds_few_steps}
 pub use Rattle.mvt_mend.proofs.SilentLemmas.{silent_stays as nothing_is_untold_stays, stays_silent as nothing_is_untold_silent, layer_silent as nothing_is_untold_layer}
+pub use Rattle.mvt_mend.proofs.MendedTileLemmas.{unchanged as mended_again_untold}

@@ -31,10 +31,11 @@ pub fn else_stays()
 {}
 
 /// Mending bytes twice is mending them once: the second time nothing is changed, and so nothing is
-/// told. Where the bytes stay the first time nothing is told either.
+/// told. Nothing is told exactly where the bytes stay.
 pub fn mended_again()
     ensures bytes { (input : List ℕ) → AreBytes input → mended (mended input) ≡ mended input }
     ensures changes { (input : List ℕ) → AreBytes input → changes_in (mended input) ≡ [] }
     ensures told { (input : List ℕ) → AreBytes input → mended input ≡ input
         → changes_in input ≡ [] }
+    ensures untold { (input : List ℕ) → changes_in input ≡ [] → mended input ≡ input }
 {}

@@ -1,3 +1,4 @@
+use Rattle.mvt_mend.proofs.MendedTileLemmas.{unchanged}
 use Rattle.mvt_mend.proofs.AgainLemmas.{again_bytes, again_changes, same_changes}
 use Rattle.mvt_mend.proofs.stays.mended_again.Goals as goal
 
@@ -9,3 +10,6 @@ returns-clause-changes c = again_changes
 
 pub returns-clause-told : goal.returns-clause-told
 returns-clause-told c = same_changes
+
+pub returns-clause-untold : goal.returns-clause-untold
+returns-clause-untold c = unchanged
