@@ -73,7 +73,7 @@ class Mending(unittest.TestCase):
 
     def test_rings_that_cross_are_not_mended(self):
         """Two exteriors of negative area, which overlap by half."""
-        rings = [9, 0, 0, 26, 0, 40, 40, 0, 0, 39, 15, 9, 20, 19, 26, 0, 40, 40, 0, 0, 39, 15]
+        rings = [9, 0, 0, 26, 0, 40, 40, 0, 0, 39, 15, 9, 19, 20, 26, 0, 40, 40, 0, 0, 39, 15]
         feature = bytes([0x18, 3, 0x22, len(rings), *rings])
         tile = bytes([0x1A, 7 + len(feature), 0x78, 2, 0x0A, 1, 0x61, 0x12, len(feature)]) + feature
         fault = refused_by(libmvt.judge, tile)
@@ -91,7 +91,7 @@ class Mending(unittest.TestCase):
     def test_a_pickled_fault_says_the_same_without_its_tile(self):
         """Behind the broken layer a layer of version 1, which is carried as it is."""
         for large, helps in ((1_900_000, True), (2_100_000, False)):
-            body = b"\x78\x01\x0a\x01b" + b"\x7a" + varint(large) + bytes(large)
+            body = b"\x78\x01\x0a\x01b" + varint(20 << 3 | 2) + varint(large) + bytes(large)
             fault = refused_by(libmvt.judge, broken("22-FirstRing") + b"\x1a" + varint(len(body)) + body)
             spelled = pickle.dumps(fault)
             twin = pickle.loads(spelled)
