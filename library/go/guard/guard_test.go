@@ -1,8 +1,6 @@
 package guard
 
 import (
-	"bytes"
-	"compress/gzip"
 	"fmt"
 	"io"
 	"net/http"
