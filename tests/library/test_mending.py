@@ -90,7 +90,7 @@ class Mending(unittest.TestCase):
 
     def test_a_pickled_fault_says_the_same_without_its_tile(self):
         """Behind the broken layer a layer of version 1, which is carried as it is."""
-        for large, helps in ((1_900_000, True), (2_100_000, False)):
+        for large, helps in ((90_000, True), (110_000, False)):
             body = b"\x78\x01\x0a\x01b" + varint(20 << 3 | 2) + varint(large) + bytes(large)
             fault = refused_by(libmvt.judge, broken("22-FirstRing") + b"\x1a" + varint(len(body)) + body)
             spelled = pickle.dumps(fault)

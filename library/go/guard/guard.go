@@ -25,8 +25,8 @@ import (
 type Option func(*judge)
 
 // Mend has tiles passed on that libmvt.Mend mends: in canonical form, packed as they came, with what was changed in the header
-// Mvt-Mended, such as "RepeatedPoint 1, TurnedRing 12". That takes up to thirty times the bytes of the tile, and up to seconds of
-// one made for it.
+// Mvt-Mended, such as "RepeatedPoint 1, TurnedRing 12". That takes up to thirty times the bytes of the tile, and up to ten seconds
+// of one made for it.
 func Mend() Option { return func(j *judge) { j.mends = true } }
 
 // New is a handler that hands requests on to a server, and judges each answer of a status from 200 to 299 but 204, which has
@@ -35,7 +35,7 @@ func Mend() Option { return func(j *judge) { j.mends = true } }
 // another status, and those to HEAD, are passed on. So give it the paths of tiles alone.
 //
 // The server is asked for whole tiles, packed by gzip where the client takes that. A request holds up to 64 MiB of the answer,
-// and as many of the tile that it unpacks to. Whether a refused tile can be mended is looked at up to 2 MB.
+// and as many of the tile that it unpacks to. Whether a refused tile can be mended is looked at up to 100 kB.
 func New(upstream *url.URL, options ...Option) http.Handler {
 	var how judge
 	for _, option := range options {
@@ -148,8 +148,9 @@ func (j *judge) modify(response *http.Response) error {
 // ofContent are the parts of a header that speak of the bytes of an answer.
 var ofContent = []string{"Content-Digest", "Content-MD5", "Digest", "Etag", "Repr-Digest"}
 
-// mostAsked is how many bytes a tile has at most of which is looked whether it can be mended: that takes seconds of larger ones.
-const mostAsked = 2_000_000
+// mostAsked is how many bytes a tile has at most of which is looked whether it can be mended: of one made for it that takes a
+// second, and of larger ones ten.
+const mostAsked = 100_000
 
 // mended is a refused tile as it is passed on, packed as it was; or its fault.
 func (j *judge) mended(header http.Header, err error, stored, tile []byte) ([]byte, error) {

@@ -2,8 +2,9 @@
 
 from typing import Any, Optional, Tuple
 
-# Of a tile up to so many bytes the text of a fault says whether it can be mended; to ask that of a larger one takes seconds.
-_ASKED = 2_000_000
+# Of a tile up to so many bytes the text of a fault says whether it can be mended: of one made for it that takes a second, and of
+# larger ones ten.
+_ASKED = 100_000
 
 
 class MvtError(Exception):
@@ -61,7 +62,7 @@ class Refused(MvtError):
     def can_be_mended(self) -> bool:
         """Whether `mend` makes a tile of these bytes that keeps every rule. When this, or the text, is first read, the bytes are
         mended, which takes as long as `mend`. False of other causes than ZeroSegment and FirstRing, and where the tile isn't at
-        hand, as in a decoder, or for a tile above 2 MB where the exception was pickled before."""
+        hand, as in a decoder, or for a tile above 100 kB where the exception was pickled before."""
         if self._is_mended is None:
             tile = self.__dict__.pop("_tile", None)
             self._is_mended = tile is not None and _is_mended(tile)
@@ -69,7 +70,7 @@ class Refused(MvtError):
 
     @property
     def hint(self) -> str:
-        """What helps, or nothing. Of a tile above 2 MB it is nothing, until `can_be_mended` was read."""
+        """What helps, or nothing. Of a tile above 100 kB it is nothing, until `can_be_mended` was read."""
         is_asked = self._is_mended is not None or self._tile is not None and len(self._tile) <= _ASKED
         return "mvt mend mends this" if is_asked and self.can_be_mended else ""
 

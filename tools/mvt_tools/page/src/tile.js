@@ -14,7 +14,7 @@ import { lineOf, titleOf } from './verdict.js';
 import { sayDifference } from './words.js';
 
 /** Of a tile up to so many bytes it is looked at once whether it can be mended. */
-const MOST_ASKED = 2_000_000;
+const MOST_ASKED = 500_000;
 const CANONICAL = 'A tile may be spelled in many ways: fields in another order, numbers with more bytes than they need, keys that no feature has. The canonical form is one of them, the same for equal tiles, and never needed to draw them. “Save canonical bytes” writes it.';
 
 /**
