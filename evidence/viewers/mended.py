@@ -1,6 +1,6 @@
 #!/usr/bin/python3
-"""Mends the tiles that evidence/producers made, and draws every one that is mended, before and after, by Mapbox GL, as MapLibre
-fills polygons, and by QGIS; writes the table of docs/OTHER_PROGRAMS.md: mended.py MVT PAGE FOLDER..
+"""Mends the tiles that evidence/producers made, and draws every one that is mended, before and after, by Mapbox GL and as MapLibre
+fills polygons; writes the table of docs/OTHER_PROGRAMS.md: mended.py MVT PAGE FOLDER..
 
 Each FOLDER has a folder for each set. A pixel is wrong that isn't filled as the even-odd rule fills it, which must be the same
 before and after. Tiles of which more is wrong afterwards are named, and the status is then 1. One tile, by QGIS before and after,
@@ -105,28 +105,12 @@ def drawn_by_mapbox(tiles, truths):
     return wrong
 
 
-def drawn_by_qgis(tiles):
-    """Of each tile the picture."""
+def drawn_by_qgis(tile):
     with tempfile.TemporaryDirectory() as room:
-        for at, tile in enumerate(tiles):
-            y, x = divmod(at, 1 << ZOOM)
-            file = pathlib.Path(room, f"{ZOOM}/{x}/{y}.pbf")
-            file.parent.mkdir(parents=True, exist_ok=True)
-            file.write_bytes(tile)
-        subprocess.run([here / "qgis_draws.py", "--sheet", str(ZOOM), room, f"{room}/out.png"], check=True, capture_output=True)
-        whole = Image.open(f"{room}/out.png").convert("RGB")
-    for at in range(len(tiles)):
-        y, x = divmod(at, 1 << ZOOM)
-        yield whole.crop((x * SIZE, y * SIZE, (x + 1) * SIZE, (y + 1) * SIZE))
-
-
-def filled_by_qgis(sheet):
-    """How many pixels it fills afterwards alone."""
-    count = 0
-    for one, other in zip(*(drawn_by_qgis([getattr(it, when) for it in sheet]) for when in ("before", "after"))):
-        was, is_now = ((numpy.asarray(each) != 255).any(axis=2) for each in (one, other))
-        count += int((~was & is_now).sum())
-    return count
+        file, picture = pathlib.Path(room, "tile.pbf"), pathlib.Path(room, "out.png")
+        file.write_bytes(tile)
+        subprocess.run([here / "qgis_draws.py", file, picture], check=True, capture_output=True)
+        return Image.open(picture).convert("RGB")
 
 
 def sheets(tiles):
@@ -134,16 +118,15 @@ def sheets(tiles):
 
 
 def compared(mended):
-    """Of each tile the wrong pixels in Mapbox GL and in MapLibre, before and after; and how many QGIS fills afterwards alone."""
+    """Of each tile the wrong pixels in Mapbox GL and in MapLibre, before and after."""
     with ProcessPoolExecutor() as pool:
         truths, by_maplibre = zip(*pool.map(truth_of, mended, chunksize=4))
     by_mapbox = []
-    with ThreadPoolExecutor(2) as pool:
+    with ThreadPoolExecutor(4) as pool:
         for when in ("before", "after"):
             found = pool.map(drawn_by_mapbox, sheets([getattr(it, when) for it in mended]), sheets(truths))
             by_mapbox.append(list(itertools.chain.from_iterable(found)))
-        filled = sum(pool.map(filled_by_qgis, sheets(mended)))
-    return list(zip(*by_mapbox)), by_maplibre, filled
+    return list(zip(*by_mapbox)), by_maplibre
 
 
 def told(counts):
@@ -160,14 +143,14 @@ def row(mvt, name, folder):
         return None, []
     kinds = collections.Counter(kind for it in whole for _, _, kind in it.changes)
     why_not = collections.Counter(it.why_not or "still refused" for it in refused if not it.is_accepted)
-    by_mapbox, by_maplibre, filled = compared(whole)
+    by_mapbox, by_maplibre = compared(whole)
     worse = [it.path for it, *counts in zip(whole, by_mapbox, by_maplibre) if any(before < after for before, after in counts)]
     for it, *counts in zip(whole, by_mapbox, by_maplibre):
         if it.path in worse:
             print(f"{it.path}: wrong in Mapbox GL, in MapLibre (before, after): {counts}", file=sys.stderr, flush=True)
     sums = [[sum(each) for each in zip(*counts)] for counts in (by_mapbox, by_maplibre)]
     cells = [name, f"{len(whole):,} of {len(refused):,}", told(why_not), told(kinds)]
-    cells += [*(f"{before:,}; {after:,}" for before, after in sums), f"{len(worse):,}", f"{filled:,}"]
+    cells += [*(f"{before:,}; {after:,}" for before, after in sums), f"{len(worse):,}"]
     return f"| {' | '.join(cells)} |", worse
 
 
@@ -180,12 +163,12 @@ def side_by_side(pictures):
 
 def main():
     mvt, page, *folders = map(pathlib.Path, sys.argv[1:])
-    heads = ["Set", "Mended", "Not mended", "Changes", "Mapbox GL", "MapLibre", "Drawn worse", "QGIS fills"]
+    heads = ["Set", "Mended", "Not mended", "Changes", "Mapbox GL", "MapLibre", "Drawn worse"]
     rows, worse = [f"| {' | '.join(heads)} |", "|" + "---|" * len(heads)], []
     for at, folder in enumerate(folders):
         if (folder / PICTURED).exists():
             pictured = Mended(mvt, folder / PICTURED)
-            pictures = [next(drawn_by_qgis([tile])) for tile in (pictured.before, pictured.after)]
+            pictures = [drawn_by_qgis(tile) for tile in (pictured.before, pictured.after)]
             side_by_side(pictures).save(page.parent / "producers/mended.png", optimize=True)
         for each in sorted(it for it in folder.iterdir() if it.is_dir()):
             told_of_set, found = row(mvt, each.name if at == 0 else f"{folder.name}, {each.name}", each)

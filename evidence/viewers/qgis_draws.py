@@ -1,7 +1,6 @@
 #!/usr/bin/python3
 """Draws a tile by QGIS, without a screen, and prints how many pixels its points, lines and polygons have, as JSON:
-qgis_draws.py TILE [PICTURE], which then gets the picture; qgis_draws.py --sheet ZOOM FOLDER PICTURE draws all tiles of a zoom,
-which FOLDER has as {z}/{x}/{y}.pbf"""
+qgis_draws.py TILE [PICTURE], which then gets the picture"""
 import json
 import os
 import shutil
@@ -32,14 +31,14 @@ def styles():
         yield style
 
 
-def picture(room, zoom=0):
-    layer = QgsVectorTileLayer(f"type=xyz&url=file://{room}/%7Bz%7D/%7Bx%7D/%7By%7D.pbf&zmin={zoom}&zmax={zoom}", "tile")
+def picture(room):
+    layer = QgsVectorTileLayer(f"type=xyz&url=file://{room}/%7Bz%7D/%7Bx%7D/%7By%7D.pbf&zmin=0&zmax=0", "tile")
     renderer = QgsVectorTileBasicRenderer()
     renderer.setStyles(list(styles()))
     layer.setRenderer(renderer)
     settings = QgsMapSettings()
     settings.setLayers([layer])
-    settings.setOutputSize(QSize(SIZE << zoom, SIZE << zoom))
+    settings.setOutputSize(QSize(SIZE, SIZE))
     settings.setBackgroundColor(QColor("white"))
     settings.setFlag(QgsMapSettings.Antialiasing, False)
     settings.setDestinationCrs(QgsCoordinateReferenceSystem("EPSG:3857"))
@@ -53,9 +52,6 @@ def picture(room, zoom=0):
 QgsApplication.setPrefixPath("/usr", True)
 application = QgsApplication([], False)
 application.initQgis()
-if sys.argv[1] == "--sheet":
-    picture(sys.argv[3], int(sys.argv[2])).save(sys.argv[4])
-    sys.exit()
 with tempfile.TemporaryDirectory() as room:
     Path(room, "0/0").mkdir(parents=True)
     shutil.copy(sys.argv[1], Path(room, "0/0/0.pbf"))
