@@ -137,6 +137,12 @@ const char *mvt_explain(const uint8_t *bytes, size_t len, const mvt_fault *fault
     return mvt_held_sentence(bytes, len, fault, &said) ? (const char *)said.data : "A rule is broken.";
 }
 
+/* How many bytes there are tells brotli. */
+const char *mvt_explain_head(const uint8_t *head, size_t len, uint64_t size, const mvt_fault *fault) {
+    const int is_unknown = len < size && mvt_looks_like(head, len) == MVT_LOOKALIKE_BROTLI;
+    return mvt_explain(head, is_unknown ? 0 : len, fault);
+}
+
 const char *mvt_cause_text(uint32_t cause) {
     mvt_bytes said = {NULL, 0};
     if (mvt_held_cause_text(cause, &said)) return (const char *)said.data;

@@ -25,7 +25,7 @@
 /* A tile has at most so many bytes, and so has what a call makes of one, but for texts. */
 #define MVT_LIMIT 67108864
 
-/* So many of its first bytes tell what an input looks like that is no tile (mvt_looks_like, mvt_explain). */
+/* So many of its first bytes tell what an input looks like that is no tile (mvt_looks_like, mvt_explain_head). */
 #define MVT_HEAD 65536
 
 #ifdef __cplusplus
@@ -522,13 +522,16 @@ typedef enum {
 } mvt_lookalike;
 
 /* What refused bytes look like, an mvt_lookalike, or 0 if they may be meant as a tile. Pass all of them, or at least the first
- * MVT_HEAD. Don't ask of an accepted tile, which may begin as something else does. */
+ * MVT_HEAD, of which brotli isn't told right. Don't ask of an accepted tile, which may begin as something else does. */
 int mvt_looks_like(const uint8_t *bytes, size_t len);
 
-/* A fault in a sentence or two. Pass the refused bytes, or the first MVT_HEAD of them, such as those that were fed to a decoder:
- * if they look like gzip, zlib, zstd, PNG, SQLite, PMTiles, JSON or HTML, or else like something that mvt_lookalike names, the
- * text says so. */
+/* A fault in a sentence or two. Pass the refused bytes: if they look like gzip, zlib, zstd, PNG, SQLite, PMTiles, JSON or HTML,
+ * or else like something that mvt_lookalike names, the text says so. */
 const char *mvt_explain(const uint8_t *bytes, size_t len, const mvt_fault *fault);
+
+/* The same of an input of `size` bytes, such as those that were fed to a decoder, of which the first MVT_HEAD are at hand, or
+ * all: brotli is told of all alone. */
+const char *mvt_explain_head(const uint8_t *head, size_t len, uint64_t size, const mvt_fault *fault);
 
 /* Where a fault stands in the refused bytes: the layer's name, which points into these bytes and may not be UTF-8, the
  * feature's id, and the bytes from `start` up to `end`. These are a field, or the number with the index `at` in the tags or

@@ -158,9 +158,9 @@ private:
 /// The bytes are no tile. Says the first broken rule: the line that the program `mvt` prints, and the sentence.
 class refused : public error {
 public:
-    /// Pass the refused bytes, or the first few of them.
-    explicit refused(const mvt_fault &fault, input of = {}, bool are_all = true)
-        : refused(fault, of, are_all, mvt_explain(of.data(), of.size(), &fault)) {}
+    /// Pass the refused bytes; or the first MVT_HEAD of them, and how many there are.
+    explicit refused(const mvt_fault &fault, input of = {}, std::optional<std::uint64_t> size = {})
+        : refused(fault, of, !size, mvt_explain_head(of.data(), of.size(), size.value_or(of.size()), &fault)) {}
 
     /// The line that the program `mvt` prints.
     [[nodiscard]] std::string line() const { return line_of(fault_); }
@@ -219,10 +219,10 @@ private:
 };
 
 /// Throws the error of a status other than MVT_OK. Pass the bytes that the call took, or the first few of them.
-inline void require_ok(std::uint32_t status, const mvt_fault &fault, input of = {}, bool are_all = true) {
+inline void require_ok(std::uint32_t status, const mvt_fault &fault, input of = {}, std::optional<std::uint64_t> size = {}) {
     switch (status) {
     case MVT_OK: return;
-    case MVT_REFUSED: throw refused(fault, of, are_all);
+    case MVT_REFUSED: throw refused(fault, of, size);
     case MVT_NO_MEMORY: throw std::bad_alloc();
     case MVT_TOO_LARGE: throw too_large(mvt_status_text(status));
     case MVT_BAD_NAME: throw bad_name(mvt_status_text(status));
@@ -518,10 +518,11 @@ public:
     /// With a bound on the bytes of the rows.
     explicit decoder(std::uint64_t most = UINT64_MAX) { require_ok(mvt_decoder_new(&held_, most), {}); }
     decoder(decoder &&other) noexcept
-        : held_(std::exchange(other.held_, {})), head_(std::move(other.head_)) {}
+        : held_(std::exchange(other.held_, {})), head_(std::move(other.head_)), size_(other.size_) {}
     decoder &operator=(decoder other) noexcept {
         std::swap(held_, other.held_);
         std::swap(head_, other.head_);
+        std::swap(size_, other.size_);
         return *this;
     }
     decoder(const decoder &) = delete;
@@ -532,21 +533,23 @@ public:
         mvt_fault fault{};
         const std::size_t more = std::min(piece.size(), MVT_HEAD - head_.size());
         head_.insert(head_.end(), piece.data(), piece.data() + more);
-        require_ok(mvt_decoder_feed(&held_, piece.data(), piece.size(), &fault), fault, head_, false);
+        size_ += piece.size();
+        require_ok(mvt_decoder_feed(&held_, piece.data(), piece.size(), &fault), fault, head_, size_);
     }
 
     /// The tile, after the last piece. Ends the decoder. Throws refused.
     [[nodiscard]] tile finish() {
         mvt_tile rows{};
         mvt_fault fault{};
-        require_ok(mvt_decoder_finish(&held_, &rows, &fault), fault, head_, false);
+        require_ok(mvt_decoder_finish(&held_, &rows, &fault), fault, head_, size_);
         return tile::adopt(rows);
     }
 
 private:
     mvt_decoder held_{};
-    /// The first bytes, to recognise what isn't a tile, as in each language.
+    /// The first bytes, to recognise what isn't a tile, as in each language, and how many there were.
     std::vector<std::uint8_t> head_;
+    std::uint64_t size_ = 0;
 };
 
 /// Throws refused if the bytes are no tile. Makes nothing, so it is the fastest check.

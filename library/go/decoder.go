@@ -27,8 +27,9 @@ type Decoder struct {
 // feeding is what a decoder and its copies share.
 type feeding struct {
 	decoder C.mvt_decoder
-	// The first bytes, which tell whether the refused bytes look like something else.
+	// The first bytes, which tell whether the refused bytes look like something else, and how many there were.
 	head []byte
+	size uint64
 }
 
 func (f *feeding) free() { C.mvt_decoder_free(&f.decoder) }
@@ -81,19 +82,21 @@ func (d *Decoder) Write(piece []byte) (int, error) {
 		}
 		held.head = append(held.head, piece[:room]...)
 	}
+	held.size += uint64(len(piece))
 	var fault C.mvt_fault
 	status := C.mvt_decoder_feed(&held.decoder, start(piece), C.size_t(len(piece)), &fault)
 	if err := errorOf(status, held.head, &fault); err != nil {
-		return 0, ofFront(err)
+		return 0, held.ofFront(err, &fault)
 	}
 	return len(piece), nil
 }
 
 // ofFront is the same error where the first bytes of the tile alone are at hand: which bytes the fault is about isn't known
 // then.
-func ofFront(err error) error {
+func (f *feeding) ofFront(err error, fault *C.mvt_fault) error {
 	if told, ok := err.(*Refused); ok {
 		told.start, told.end, told.isPlaced = 0, 0, false
+		told.Explanation = C.GoString(C.mvt_explain_head(start(f.head), C.size_t(len(f.head)), C.uint64_t(f.size), fault))
 	}
 	return err
 }
@@ -128,7 +131,7 @@ func (d *Decoder) Finish() (*Tile, error) {
 	var rows C.mvt_tile
 	var fault C.mvt_fault
 	tile, err := adopted(C.mvt_decoder_finish(&held.decoder, &rows, &fault), held.head, &rows, &fault)
-	return tile, ofFront(err)
+	return tile, held.ofFront(err, &fault)
 }
 
 // Close frees the decoder.

@@ -356,6 +356,7 @@ const char *(*const call_mvt_note_text)(uint32_t) = mvt_note_text;
 const char *(*const call_mvt_finding_text)(uint32_t) = mvt_finding_text;
 int (*const call_mvt_looks_like)(const uint8_t *, size_t) = mvt_looks_like;
 const char *(*const call_mvt_explain)(const uint8_t *, size_t, const mvt_fault *) = mvt_explain;
+const char *(*const call_mvt_explain_head)(const uint8_t *, size_t, uint64_t, const mvt_fault *) = mvt_explain_head;
 void (*const call_mvt_locate)(const uint8_t *, size_t, const mvt_fault *, mvt_place *) = mvt_locate;
 mvt_status (*const call_mvt_around)(const uint8_t *, size_t, const mvt_fault *, mvt_surroundings *) = mvt_around;
 void (*const call_mvt_bytes_free)(mvt_bytes *) = mvt_bytes_free;

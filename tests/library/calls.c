@@ -273,7 +273,7 @@ static void refuse(const told_case *of) {
     const char *sentence = mvt_explain(of->tile, of->len, &fault);
     wanted = case_says(of, "sentence", &len);
     require_bytes(sentence, strlen(sentence), wanted, len, "the sentence of a fault");
-    sentence = mvt_explain(of->tile, of->len < MVT_HEAD ? of->len : MVT_HEAD, &fault);
+    sentence = mvt_explain_head(of->tile, of->len < MVT_HEAD ? of->len : MVT_HEAD, of->len, &fault);
     require_bytes(sentence, strlen(sentence), wanted, len, "the sentence of a fault by the first bytes");
 }
 

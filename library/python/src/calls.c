@@ -51,14 +51,15 @@ static int is_curable(const mvt_fault *fault) {
 
 /* Raises a fault, with what the bytes that are at hand, all of the tile or its first, tell of its place. It holds the whole
  * tile where it may be asked whether that can be mended. */
-static void raise_refused(const state *of, const mvt_fault *fault, const uint8_t *bytes, size_t len, PyObject *whole) {
+static void raise_refused(const state *of, const mvt_fault *fault, const uint8_t *bytes, size_t len, uint64_t size,
+                          PyObject *whole) {
     mvt_place place = {0};
     mvt_locate(bytes, len, fault, &place);
     const int has_place = len != 0 && whole != NULL;
     PyObject *why = PyObject_CallFunction(
         of->refused, "NNKks#sNNNN", index_or_none(fault->layer), index_or_none(fault->feature),
         (unsigned long long)fault->at, (unsigned long)fault->cause, (const char *)fault->name.data,
-        (Py_ssize_t)fault->name.len, mvt_explain(bytes, len, fault),
+        (Py_ssize_t)fault->name.len, mvt_explain_head(bytes, len, size, fault),
         text_or_none(place.has_layer_name != 0, place.layer_name),
         number_or_none(place.has_feature_id != 0, place.feature_id), number_or_none(has_place, place.start),
         number_or_none(has_place, place.end));
@@ -72,11 +73,18 @@ static void raise_refused(const state *of, const mvt_fault *fault, const uint8_t
 int raise_for(const state *of, uint32_t status, const mvt_fault *fault, const uint8_t *bytes, size_t len, PyObject *whole) {
     switch (status) {
     case MVT_OK: return 0;
-    case MVT_REFUSED: raise_refused(of, fault, bytes, len, whole); break;
+    case MVT_REFUSED: raise_refused(of, fault, bytes, len, len, whole); break;
     case MVT_NO_MEMORY: PyErr_SetString(PyExc_MemoryError, "out of memory"); break;
     case MVT_TOO_LARGE: PyErr_SetString(of->too_large, mvt_status_text(status)); break;
     default: PyErr_SetString(of->error, mvt_status_text(status)); break;
     }
+    return -1;
+}
+
+/* The same of a tile of `size` bytes, of which these are the first. */
+int raise_for_head(const state *of, uint32_t status, const mvt_fault *fault, const uint8_t *head, size_t len, uint64_t size) {
+    if (status != MVT_REFUSED) return raise_for(of, status, fault, head, len, NULL);
+    raise_refused(of, fault, head, len, size, NULL);
     return -1;
 }
 

@@ -7,9 +7,10 @@ typedef struct {
     state *of;
     mvt_decoder decoder;
     PyThread_type_lock turn;
-    /* The first bytes, to recognise what isn't a tile, as in each language: `known` of them, in memory for `room`. */
+    /* The first bytes, to recognise what isn't a tile, as in each language: `known` of `size`, in memory for `room`. */
     uint8_t *head;
     size_t known, room;
+    uint64_t size;
 } decoder;
 
 static PyObject *decoder_new(PyTypeObject *type, PyObject *words, PyObject *named) {
@@ -38,7 +39,7 @@ static int decoder_init(PyObject *self, PyObject *words, PyObject *named) {
     if (!PyArg_ParseTupleAndKeywords(words, named, "|K:Decoder", known, &most)) return -1;
     take_turn(of);
     mvt_decoder_free(&of->decoder);
-    of->known = 0;
+    of->known = 0, of->size = 0;
     const uint32_t status = mvt_decoder_new(&of->decoder, most);
     PyThread_release_lock(of->turn);
     return raise_for(of->of, status, NULL, NULL, 0, NULL);
@@ -56,6 +57,7 @@ static void decoder_dealloc(PyObject *self) {
 /* Whether there is memory for what of the first bytes is in a piece. */
 static int keep_head(decoder *of, const uint8_t *bytes, size_t len) {
     const size_t more = len < MVT_HEAD - of->known ? len : MVT_HEAD - of->known;
+    of->size += len;
     if (more == 0) return 1;
     if (of->known + more > of->room) {
         const size_t twice = 2 * of->room < MVT_HEAD ? 2 * of->room : MVT_HEAD;
@@ -87,7 +89,7 @@ static PyObject *feed(PyObject *self, PyObject *words, PyObject *named) {
         Py_END_ALLOW_THREADS
     }
     PyThread_release_lock(of->turn);
-    const int failed = raise_for(of->of, status, &fault, of->head, of->known, NULL);
+    const int failed = raise_for_head(of->of, status, &fault, of->head, of->known, of->size);
     Py_DECREF(piece);
     if (failed) return NULL;
     Py_INCREF(Py_None);
@@ -103,7 +105,7 @@ static int end(decoder *of, mvt_tile *tile) {
     status = mvt_decoder_finish(&of->decoder, tile, &fault);
     Py_END_ALLOW_THREADS
     PyThread_release_lock(of->turn);
-    return raise_for(of->of, status, &fault, of->head, of->known, NULL);
+    return raise_for_head(of->of, status, &fault, of->head, of->known, of->size);
 }
 
 static PyObject *rows(PyObject *self, PyObject *unused) {

@@ -44,6 +44,7 @@ PyObject *never_new(PyTypeObject *type, PyObject *words, PyObject *named);
 PyObject *bytes_of(PyObject *tile);
 const uint8_t *content_of(PyObject *bytes, size_t *len);
 int raise_for(const state *of, uint32_t status, const mvt_fault *fault, const uint8_t *bytes, size_t len, PyObject *whole);
+int raise_for_head(const state *of, uint32_t status, const mvt_fault *fault, const uint8_t *head, size_t len, uint64_t size);
 int raise_no_tile(const state *of, const mvt_rows_fault *wrong);
 extern PyMethodDef CALLS[], REMARKS_CALLS[], AROUND_CALLS[], SIZES_CALLS[];
 

@@ -510,6 +510,12 @@ extern "C" {
     pub fn mvt_finding_text(finding: u32) -> *const c_char;
     pub fn mvt_looks_like(bytes: *const u8, len: usize) -> c_int;
     pub fn mvt_explain(bytes: *const u8, len: usize, fault: *const Fault) -> *const c_char;
+    pub fn mvt_explain_head(
+        head: *const u8,
+        len: usize,
+        size: u64,
+        fault: *const Fault,
+    ) -> *const c_char;
     pub fn mvt_locate(bytes: *const u8, len: usize, fault: *const Fault, out: *mut Place);
     pub fn mvt_around(
         bytes: *const u8,

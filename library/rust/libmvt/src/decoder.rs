@@ -20,8 +20,9 @@ use std::io;
 /// It is a [`Write`](io::Write) too, so that `io::copy` fills it.
 pub struct Decoder {
     held: sys::Decoder,
-    /// The first bytes, which tell whether the refused bytes look like something else.
+    /// The first bytes, which tell whether the refused bytes look like something else, and how many there were.
     head: Vec<u8>,
+    size: u64,
 }
 
 // SAFETY: what it holds is this value's alone, and no call takes it shared.
@@ -50,7 +51,11 @@ impl Decoder {
         let head = Vec::new();
         // SAFETY: the decoder is none yet.
         match unsafe { sys::mvt_decoder_new(&mut held, most) } {
-            sys::OK => Ok(Decoder { held, head }),
+            sys::OK => Ok(Decoder {
+                held,
+                head,
+                size: 0,
+            }),
             // SAFETY: the status isn't that of a fault.
             status => Err(unsafe { error_of(status, &[], &no_fault()) }),
         }
@@ -65,13 +70,16 @@ impl Decoder {
     /// [`Error::OutOfMemory`].
     pub fn feed(&mut self, piece: &[u8]) -> Result<(), Error> {
         self.keep_head(piece)?;
+        self.size += piece.len() as u64;
         let mut fault = no_fault();
         let (start, len) = (piece.as_ptr(), piece.len());
         // SAFETY: the decoder was made, and the piece is lent for the call.
         match unsafe { sys::mvt_decoder_feed(&mut self.held, start, len, &mut fault) } {
             sys::OK => Ok(()),
             // SAFETY: the fault is filled where the bytes are refused.
-            status => Err(unsafe { error_of(status, &self.head, &fault) }.of_front()),
+            status => Err(unsafe {
+                error_of(status, &self.head, &fault).of_front(&self.head, self.size, &fault)
+            }),
         }
     }
 
@@ -91,12 +99,15 @@ impl Decoder {
     ///
     /// As [`feed`](Self::feed).
     pub fn finish(mut self) -> Result<Tile, Error> {
+        let (held, mut told) = (&mut self.held, no_fault());
         // SAFETY: the decoder was made, and the outputs have room.
-        let held = &mut self.held;
-        Tile::made(&self.head, |out, fault| unsafe {
-            sys::mvt_decoder_finish(held, out, fault)
-        })
-        .map_err(Error::of_front)
+        let made = Tile::made(&self.head, |out, fault| unsafe {
+            let status = sys::mvt_decoder_finish(held, out, fault);
+            told = *fault;
+            status
+        });
+        // SAFETY: the fault is filled where the bytes are refused.
+        made.map_err(|error| unsafe { error.of_front(&self.head, self.size, &told) })
     }
 }
 

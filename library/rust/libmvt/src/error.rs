@@ -73,10 +73,23 @@ pub struct RowsFault {
 }
 
 impl Error {
-    /// The same where the first bytes of the tile alone are at hand: which bytes the fault is about isn't known then.
-    pub(crate) fn of_front(mut self) -> Self {
+    /// The same where the first bytes of the tile, of so many, alone are at hand: which bytes the fault is about isn't known
+    /// then.
+    ///
+    /// # Safety
+    /// The library filled the fault, if that is the error.
+    pub(crate) unsafe fn of_front(mut self, head: &[u8], size: u64, fault: &sys::Fault) -> Self {
         if let Error::Refused(refused) = &mut self {
             refused.bytes = None;
+            // SAFETY: the head is lent for the call, and words last for good.
+            refused.explanation = unsafe {
+                words(sys::mvt_explain_head(
+                    head.as_ptr(),
+                    head.len(),
+                    size,
+                    fault,
+                ))
+            };
         }
         self
     }
