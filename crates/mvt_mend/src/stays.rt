@@ -9,9 +9,9 @@ ghost use Rattle.mvt_mend.specs.Stays.{AreBut, IsFeatureBut, IsLayerBut, fields_
 ghost use Rattle.mvt_mend.specs.Tiles.{as_layer, changes_in, fields_with, is_layer, mended, mended_layer};
 
 /// Of a feature that is mended all but the geometry stays, of a layer all but the features, and of
-/// a tile all but the layers: what memory can hold of them is spelled, and read, as it was. In a
-/// layer each feature is mended in its place, and in a tile each layer; what is no layer of version
-/// 2 with a name stays byte by byte.
+/// a tile all but the layers, if memory can hold what is made. In a layer each feature is mended in
+/// its place, and in a tile each layer, and their fields are spelled anew; what is no layer of
+/// version 2 with a name stays byte by byte.
 pub fn else_stays()
     ensures feature { (payload made : List ℕ) → AreBytes payload
         → mended_feature payload ≡ made ∷ [] → length made < 2 ^ 64 → IsFeatureBut payload made }

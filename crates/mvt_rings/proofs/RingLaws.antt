@@ -10,3 +10,4 @@ pub use Rattle.mvt_rings.proofs.LargerLemmas.{larger_irreflexive as larger_order
 pub use Rattle.mvt_rings.proofs.CrossingLemmas.{crossing_holds as crossing_holds_holds, told_uncrossed as crossing_holds_only}
 pub use Rattle.mvt_rings.proofs.LongLemmas.{rings_are_long}
 pub use Rattle.mvt_rings.proofs.FirstLemmas.{told_begins}
+pub use Rattle.mvt_rings.proofs.DrawingLemmas.{drawings_agree as both_drawings_agree}
