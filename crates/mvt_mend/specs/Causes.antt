@@ -1,4 +1,5 @@
--- Why a tile isn't mended, in terms of its layers and features (Mapbox Vector Tile Specification 2.1, 4.1 and 4.3.4).
+-- Why a tile isn't mended, in terms of its layers and features (Mapbox Vector Tile Specification
+-- 2.1, 4.1 and 4.3.4).
 use Rattle.std.specs.Prelude.{◌≡◌, ℕ, true, List, slice_get, Some, Err}
 use Rattle.mvt_wire.specs.Field.{bytes}
 use Rattle.mvt_feature.specs.Selection.{contents_at}

@@ -1,4 +1,5 @@
--- What the changes of a geometry tell: every point and every ring (Mapbox Vector Tile Specification 2.1, 4.3.3.2 and 4.3.4.4).
+-- What the changes of a geometry tell: every point and every ring (Mapbox Vector Tile Specification
+-- 2.1, 4.3.3.2 and 4.3.4.4).
 use Rattle.std.specs.Prelude.{◌≡◌, ◌≢◌, ℕ, nat_lt, Bool, true, ◌&&◌, ◌||◌, List, [], slice_get, slice_index_or, count_by, Some, ◌+◌, ◌<◌, length}
 use Rattle.std.specs.List.{AllByRecursion}
 use Rattle.mvt_wire.specs.Split.{split}

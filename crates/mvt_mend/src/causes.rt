@@ -7,10 +7,10 @@ ghost use Rattle.mvt_mend.specs.Causes.{IsFeatureAt, RingsOfCross};
 ghost use Rattle.mvt_mend.specs.Features.{feature_outcome};
 ghost use Rattle.mvt_mend.specs.Tiles.{cause_in, has_layers, is_long_winded};
 
-/// The cause that is told holds. Where two rings are told to cross, the feature of that index of the
-/// layer of that index is a polygon whose rings of these indices cross; where too many steps are
-/// told, they are too many. Where another rule is told, of bytes within the limit that are fields,
-/// it is neither: no feature's rings cross, and the steps are within their bound.
+/// The cause that is told holds. Where two rings are told to cross, the feature of that index of
+/// the layer of that index is a polygon whose rings of these indices cross; where too many steps
+/// are told, they are too many. Where another rule is told, of bytes within the limit that are
+/// fields, it is neither: no feature's rings cross, and the steps are within their bound.
 pub fn cause_holds()
     ensures cross { (input : List ℕ) (layer feature : ℕ) (c : Crossing)
         → cause_in input ≡ RingsCross layer feature c

@@ -1,5 +1,5 @@
--- What is filled by the directions of rings, where those that contain a spot don't cross (Mapbox Vector Tile Specification
--- 2.1, 4.3.4.4).
+-- What is filled by the directions of rings, where those that contain a spot don't cross (Mapbox
+-- Vector Tile Specification 2.1, 4.3.4.4).
 use Rattle.std.specs.Prelude.{◌≡◌, ◌≢◌, ℕ, ◌&&◌, Bool, true, false, List, filter, sum_by}
 use Rattle.mvt_base.specs.Rules.{IsOneOf}
 use Rattle.mvt_rings.specs.declared.nesting.Spot.{Spot}
@@ -24,7 +24,7 @@ is_held Held = true
 is_held Apart = false
 is_held Unclear = false
 
--- rings that contain a spot have area, and each is held by the larger ones that contain it, and by no others
+-- rings that contain a spot have area, and each is held by the larger ones that contain it alone
 pub record AreNestedAt (parts : ℕ) (spot : Spot) (rings : List Ring) : Type 0 where
   pub solid : (r : Ring) → IsOneOf rings r → holds parts spot r.points ≡ 1 → r.size ≢ 0
   pub held : (o r : Ring) → IsOneOf rings o → IsOneOf rings r → holds parts spot r.points ≡ 1 → is_larger o r ≡ true
