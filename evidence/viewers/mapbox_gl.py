@@ -100,7 +100,7 @@ def shot(wait, tile_at, zoom, layers):
         Path(room, "map.qml").write_text(text)
         env = dict(os.environ, LIBGL_ALWAYS_SOFTWARE="1", XDG_RUNTIME_DIR=room, HOME=room)
         screen = f"-screen 0 {side + 100}x{side + 100}x24 +extension GLX"
-        ran = subprocess.run(["xvfb-run", "-n", str(next(SCREENS)), "-s", screen, "timeout", "120", "qmlscene", f"{room}/map.qml"],
+        ran = subprocess.run(["xvfb-run", "-n", str(next(SCREENS)), "-s", screen, "timeout", "200", "qmlscene", f"{room}/map.qml"],
                              env=env, capture_output=True, text=True)
         server.shutdown()
         words = [line.split(" for source t: ")[-1].strip(' "') for line in (ran.stdout + ran.stderr).splitlines() if "ERROR" in line]

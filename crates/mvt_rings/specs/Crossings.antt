@@ -8,7 +8,7 @@ use Rattle.mvt_rings.specs.Rings.{may_hold, place}
 use Rattle.mvt_rings.specs.declared.holding.Crossing.{Crossing}
 use Rattle.mvt_rings.specs.Holding.{holders_of, is_odd_one}
 
--- of two rings one may hold the other, and its place isn't clear: it lies partly inside of it
+-- of two rings one may hold the other, and its place as to that isn't clear
 pub record AreUnclear (rings : List Ring) (c : Crossing) : Type 0 where
   pub outer : Ring
   pub inner : Ring
