@@ -465,7 +465,7 @@ mvt_status mvt_builder_integers(mvt_builder *builder, const uint32_t *integers, 
 
 /* Adds a whole feature in one call, and ends the one before. `id` may be NULL. Tags are pairs of indices from
  * mvt_builder_key and mvt_builder_value. Parts are spans of these points: lines, rings, or one part with all points of a
- * feature of points. MVT_OUT_OF_TURN also if a part reaches beyond the points. */
+ * feature of points. MVT_OUT_OF_TURN also if a part reaches beyond the points, or the `exterior` of a ring is above 1. */
 mvt_status mvt_builder_add(mvt_builder *builder, mvt_kind kind, const uint64_t *id, const uint32_t *tags, size_t tag_count,
                            const mvt_part *parts, size_t part_count, const mvt_point *points, size_t point_count);
 

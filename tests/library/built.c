@@ -162,6 +162,29 @@ static void build_whole(void) {
     }
 }
 
+/* A ring says by 0 or 1 whether it is an exterior one, to a builder as in rows; what other parts say of it means nothing. */
+static void build_odd_rings(void) {
+    const mvt_point points[] = {{0, 0}, {4, 0}, {4, 4}};
+    const uint32_t odd[] = {1, 2, 256, UINT32_MAX};
+    for (int i = 0; i < 4; ++i) {
+        const mvt_part ring = {odd[i], {0, 3}}, line = {odd[i], {0, 2}}, dot = {odd[i], {0, 1}};
+        mvt_builder builder = {0};
+        mvt_tile rows;
+        mvt_bytes out = {0};
+        mvt_rows_fault fault;
+        mvt_builder_layer(&builder, mvt_text("a"), 4096);
+        require(mvt_builder_add(&builder, MVT_LINES, NULL, NULL, 0, &line, 1, points, 3) == MVT_OK, "a line");
+        require(mvt_builder_add(&builder, MVT_POINTS, NULL, NULL, 0, &dot, 1, points, 3) == MVT_OK, "a point");
+        require(mvt_builder_rows(&builder, &rows) == MVT_OK && rows.parts[0].exterior == 0 && rows.parts[1].exterior == 0,
+                "no line or point is a ring");
+        mvt_builder_layer(&builder, mvt_text("b"), 4096);
+        const uint32_t status = mvt_builder_add(&builder, MVT_POLYGONS, NULL, NULL, 0, &ring, 1, points, 3);
+        require(status == (i == 0 ? MVT_OK : MVT_OUT_OF_TURN), "an odd ring");
+        require(mvt_builder_finish(&builder, &out, &fault) == status, "an answer that stays");
+        mvt_bytes_free(&out);
+    }
+}
+
 /* Keys and values that come again are found among many, and each layer counts its own. */
 static void build_many(void) {
     enum { MANY = 20000 };
@@ -487,6 +510,7 @@ static const named_test TESTS[] = {
     {"values of each kind", build_kinds},
     {"features of each kind", build_all},
     {"whole features", build_whole},
+    {"rings that don't say what they are", build_odd_rings},
     {"keys and values that come again", build_many},
     {"texts that clash", build_clashes},
     {"calls out of turn", build_out_of_turn},

@@ -230,7 +230,7 @@ pub extern "C" fn mvt_making_add(
 ) -> u32
     ensures { IsAnsweredBy (Unit {0}) held.making.inner again.new.making.inner result
         (spec.add_feature kind (id_given has_id id) tags.now
-        (spec.told_parts points.now parts.now)) }
+        (spec.told_parts kind points.now parts.now)) }
 {
     let mut making = held.into_box();
     let made = making

@@ -221,12 +221,19 @@ integers_in integers (InPart l f p) = if f.kind == 0 then Some (InPart l (with_i
 abbrev pub add_integers : List ℕ → Told → Option Told
 add_integers integers told = with_begun told (integers_in integers told.begun)
 
--- a whole feature at once, as rows give it: its parts are spans of these points
-abbrev pub told_part : List PointRow → PartRow → Option ToldPart
-told_part points row = option_map (new_part (not (row.exterior == 0))) (part_of points row.points)
+-- a whole feature at once, as rows give it: its parts are spans of these points, and a ring says by 0 or 1 whether it is an exterior
+-- one, as in rows that are written; what other parts say of it means nothing
+abbrev pub points_told : ℕ → List PointRow → PartRow → Option (List PointRow)
+points_told kind points row = if (kind == 3) && nat_lt 1 row.exterior then None else part_of points row.points
 
-abbrev pub told_parts : List PointRow → List PartRow → Option (List ToldPart)
-told_parts points rows = each (told_part points) rows
+abbrev pub is_exterior_told : ℕ → PartRow → Bool
+is_exterior_told kind row = (kind == 3) && (row.exterior == 1)
+
+abbrev pub told_part : ℕ → List PointRow → PartRow → Option ToldPart
+told_part kind points row = option_map (new_part (is_exterior_told kind row)) (points_told kind points row)
+
+abbrev pub told_parts : ℕ → List PointRow → List PartRow → Option (List ToldPart)
+told_parts kind points rows = each (told_part kind points) rows
 
 abbrev pub with_parts : ToldFeature → List ToldPart → ToldFeature
 with_parts f parts = record f { parts = f.parts ++ parts }

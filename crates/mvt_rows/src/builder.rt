@@ -1,6 +1,6 @@
 //! A tile made step by step: a builder holds the rows of what it was told, and gives the tile's
 //! bytes at the end.
-ghost use Rattle.std.specs.Prelude.{◌≡◌, ◌≢◌, ◌&&◌, ◌++◌, [], List, None, Some, Ok, Err, is_some, OnOk, OnErr, IfOk, IfErr, IfSome, IsSomeAnd, IsErrOf, bytes_eq, false, true};
+ghost use Rattle.std.specs.Prelude.{◌≡◌, ◌≢◌, ◌&&◌, ◌++◌, [], List, None, Some, Ok, Err, MatchOption, is_some, OnOk, OnErr, IfOk, IfErr, IfSome, IsSomeAnd, IsErrOf, bytes_eq, false, true};
 ghost use Rattle.mvt_attrs.specs.FirstUse.{AreDistinct};
 ghost use Rattle.mvt_attrs.specs.Placed.{IsPlaced};
 ghost use Rattle.mvt_attrs.specs.TagPlaces.{place_in};
@@ -319,9 +319,9 @@ impl Builder {
         points: &[PointRow],
     ) -> Result<(), BuildError>
         ensures { IsCalled self.old self.new result
-            (spec.add_feature kind id tags.now (spec.told_parts points.now parts.now)) }
+            (spec.add_feature kind id tags.now (spec.told_parts kind points.now parts.now)) }
     {
-        self.enter(self.takes_parts(parts, points))?;
+        self.enter(self.takes_parts(kind, parts, points))?;
         let added = self.add_feature(kind, id, tags, parts, points);
         self.settle(added)
     }
@@ -442,11 +442,11 @@ impl Builder {
     }
 
     /// Whether a whole feature with these parts may come.
-    fn takes_parts(&self, parts: &[PartRow], points: &[PointRow]) -> bool
+    fn takes_parts(&self, kind: u32, parts: &[PartRow], points: &[PointRow]) -> bool
         ensures { result ≡ (has_layer self.now.turn
-            && is_some (spec.told_parts points.now parts.now)) }
+            && is_some (spec.told_parts kind points.now parts.now)) }
     {
-        self.is_in_layer() && are_within(parts, points)
+        self.is_in_layer() && are_told(kind, parts, points)
     }
 
     /// Ends the part that has begun, if there is one.
@@ -544,30 +544,35 @@ impl Builder {
     ) -> Result<(), AllocError>
         requires { has_layer self.old.turn ≡ true }
         ensures { (parts_told : List spec.ToldPart)
-            → spec.told_parts points.now parts.now ≡ Some parts_told
+            → spec.told_parts kind points.now parts.now ≡ Some parts_told
             → IsStep self.old self.new result
             (spec.add_feature kind id tags.now (Some parts_told)) }
     {
         self.begin_feature(kind)?;
         self.feature.id = id;
         self.table.add_tags(tags)?;
-        self.add_parts(parts, points)?;
+        self.add_parts(kind, parts, points)?;
         self.end_feature()
     }
 
-    /// Adds parts, which are spans of these points, to the feature that has begun.
-    fn add_parts(&mut self, parts: &[PartRow], points: &[PointRow]) -> Result<(), AllocError>
+    /// Adds parts, which are spans of these points, to the feature of this kind that has begun.
+    fn add_parts(
+        &mut self,
+        kind: u32,
+        parts: &[PartRow],
+        points: &[PointRow],
+    ) -> Result<(), AllocError>
         ensures holds { (t : Table) (l : spec.ToldLayer) (f : spec.ToldFeature)
             (told : List spec.ToldPart) → Holds self.old t (spec.InFeature l f)
-            → spec.told_parts points.now parts.now ≡ Some told
+            → spec.told_parts kind points.now parts.now ≡ Some told
             → OnOk result (Holds self.new t (spec.InFeature l (spec.with_parts f told))) }
         ensures failure { self.new.failure ≡ self.old.failure }
     {
         for part in parts {
-            let Some(lent) = find_part(points, part.points) else {
+            let Some(lent) = points_told(kind, part, points) else {
                 return Ok(());
             };
-            self.add_part(part.exterior != 0, lent)?;
+            self.add_part(is_exterior(kind, part), lent)?;
         }
         Ok(())
     }
@@ -641,12 +646,31 @@ impl Builder {
     }
 }
 
-/// Whether each part is a span of these points.
-fn are_within(parts: &[PartRow], points: &[PointRow]) -> bool
-    ensures { result ≡ is_some (spec.told_parts points.now parts.now) }
+/// The points of a part of a feature of this kind, if it is a span of these, and if a ring says by
+/// Whether a part of a feature of this kind is told as an exterior ring.
+fn is_exterior(kind: u32, part: &PartRow) -> bool
+    ensures { result ≡ spec.is_exterior_told kind part.now }
+{
+    kind == 3 && part.exterior == 1
+}
+
+/// 0 or 1 whether it is an exterior one.
+fn points_told<'a>(kind: u32, part: &PartRow, points: &'a [PointRow]) -> Option<&'a [PointRow]>
+    ensures { MatchOption result (spec.points_told kind points.now part.now ≡ None)
+        (λ lent. spec.points_told kind points.now part.now ≡ Some lent.now) }
+{
+    if kind == 3 && part.exterior > 1 {
+        return None;
+    }
+    find_part(points, part.points)
+}
+
+/// Whether each part of a feature of this kind can be told.
+fn are_told(kind: u32, parts: &[PartRow], points: &[PointRow]) -> bool
+    ensures { result ≡ is_some (spec.told_parts kind points.now parts.now) }
 {
     for part in parts {
-        let Some(_lent) = find_part(points, part.points) else {
+        let Some(_lent) = points_told(kind, part, points) else {
             return false;
         };
     }

@@ -166,6 +166,22 @@ fn wants_parts_within_the_points(rt: HostRuntime) {
     expect_late(&rt, builder, late);
 }
 
+// A ring says by 0 or 1 whether it is an exterior one, as in rows that are written; of lines and
+// points it says nothing.
+#[test]
+fn wants_rings_that_say_what_they_are(rt: HostRuntime) {
+    let ring = [point(0, 0), point(1, 0), point(1, 1)];
+    for exterior in [2, 256, u32::MAX] {
+        let mut builder = begun(&rt);
+        let late = builder.add(3, None, &[], &[part(1, 0, 3), part(exterior, 0, 3)], &ring);
+        expect_late(&rt, builder, late);
+    }
+    for (kind, len) in [(1, 1), (2, 2)] {
+        let mut builder = begun(&rt);
+        expect_eq!(rt; builder.add(kind, None, &[], &[part(2, 0, len)], &ring), Ok(()));
+    }
+}
+
 // Integers of unknown type are carried as they are.
 #[test]
 fn builds_integers(rt: HostRuntime) {

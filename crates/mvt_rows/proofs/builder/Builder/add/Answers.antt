@@ -8,7 +8,7 @@ use Rattle.mvt_rows.proofs.builder.Builder.add.Goals as goal
 pub returns : goal.returns
 returns c =
     let a = c.args in
-    let parts = told_parts a.points.now a.parts.now in
+    let parts = told_parts a.kind a.points.now a.parts.now in
     let entered = c.in_ok-enter.ensures.ok in
     let due = both (has_layer a.self.now.turn) (is_some parts) (sym c.takes_parts.ensures ∙ entered.2) in
     let (told_of, is) = some_of parts due.1 in

@@ -7,7 +7,7 @@ use Rattle.mvt_rows.proofs.builder.Builder.add_parts.Given as goal
 abbrev pub invariant-loop-part : goal.invariant-loop-part
 invariant-loop-part l = record {
   told : List ToldPart;
-  made : told_parts l.points (take l.part-index l.parts) ≡ Some told;
+  made : told_parts l.kind l.points (take l.part-index l.parts) ≡ Some told;
   holds : (t : Table) (layer : ToldLayer) (f : ToldFeature) → Holds l.initial.self t (InFeature layer f)
       → Holds l.self t (InFeature layer (with_parts f told));
   failure : l.self.failure ≡ l.initial.self.failure;
