@@ -173,9 +173,11 @@ def measured(tiles, count, name):
         found, seconds, seen, spent = audited(Path(room, name), room)
     seconds_of = found["seconds"]
     client, workers = 1e6 * seconds_of["client"] / count, 1e6 * (spent - none) / count
-    return (f"| {count:,} | `mvt-audit {name}`, {WORKERS} workers | {seconds:.1f} | {seconds_of['start']:.1f} | {seconds_of['work']:.1f} |"
-            f" {found['tiles_a_second']:,} | {client:.2f} and {workers:.0f} | {workers / client:.0f} | {seen.client} and {seen.worker} |"
-            f" {found['verdicts']['refused']:,} |")
+    return (
+        f"| {count:,} | `mvt-audit {name}`, {WORKERS} workers | {seconds:.1f} | {seconds_of['start']:.1f} | {seconds_of['work']:.1f} |"
+        f" {found['tiles_a_second']:,} | {client:.2f} and {workers:.0f} | {workers / client:.0f} | {seen.client} and {seen.worker} |"
+        f" {found['verdicts']['refused']:,} |"
+    )
 
 
 def alone(tiles, name):
@@ -195,9 +197,11 @@ def alone(tiles, name):
             linted.append(spent_by(lambda: [looked_at(unpacked(content)) for content in contents]))
             added.append(spent_by(lambda: results.add([Block(store.path, number, block)])))  # noqa: B023
         results.close()
-    return (f"{name}: a worker {1e6 * min(judged) / JUDGED:.1f} µs a tile, of which unpacking and judging take"
-            f" {1e6 * min(needed) / JUDGED:.1f}, and findings {1e6 * (min(linted) - min(needed)) / JUDGED:.1f};"
-            f" the client {1e6 * min(added) / ADDED:.2f}")
+    return (
+        f"{name}: a worker {1e6 * min(judged) / JUDGED:.1f} µs a tile, of which unpacking and judging take"
+        f" {1e6 * min(needed) / JUDGED:.1f}, and findings {1e6 * (min(linted) - min(needed)) / JUDGED:.1f};"
+        f" the client {1e6 * min(added) / ADDED:.2f}"
+    )
 
 
 def spent_by(call):
@@ -215,8 +219,12 @@ def checked(mvt, tiles, count, room):
         path.write_bytes(tiles[number % len(tiles)])
         names.append(str(path))
     begun, before = time.monotonic(), os.times()
-    told = subprocess.run(["xargs", "-0", "-P", str(WORKERS), "-n", "2000", mvt, "check"], input="\0".join(names),
-                          capture_output=True, text=True)
+    told = subprocess.run(
+        ["xargs", "-0", "-P", str(WORKERS), "-n", "2000", mvt, "check"],
+        input="\0".join(names),
+        capture_output=True,
+        text=True,
+    )
     seconds, after = time.monotonic() - begun, os.times()
     spent = after.children_user + after.children_system - before.children_user - before.children_system
     return seconds, spent, sum(": layer " in line for line in told.stderr.splitlines())
@@ -232,8 +240,13 @@ def main():
         print(alone(tiles, name), flush=True)
     for size, parts in ((20_000, 50), (50_000, 40)):
         best = min(fed(tiles, size, parts) for _ in range(3))
-        print(f"{parts} ready parts of {size:,} tiles: the client {best:.2f} µs a tile, with the pipes and the index", flush=True)
-    print("\n| Tiles | Program | Seconds | The start | Judging | Tiles a second | Processor, µs a tile | Workers a client can feed | Peak, MB | Refused |")
+        print(
+            f"{parts} ready parts of {size:,} tiles: the client {best:.2f} µs a tile, with the pipes and the index",
+            flush=True,
+        )
+    print(
+        "\n| Tiles | Program | Seconds | The start | Judging | Tiles a second | Processor, µs a tile | Workers a client can feed | Peak, MB | Refused |"
+    )
     print("|---|---|---|---|---|---|---|---|---|---|")
     for count in counts:
         for name in NAMES:
@@ -241,8 +254,11 @@ def main():
         if count <= FILES:
             with tempfile.TemporaryDirectory() as room:
                 seconds, spent, refused = checked(sys.argv[2], tiles, count, room)
-            print(f"| {count:,} | `mvt check`, {WORKERS} processes | {seconds:.1f} | | {seconds:.1f} |"
-                  f" {count / seconds:,.0f} | {1e6 * spent / count:.0f} | | | {refused:,} |", flush=True)
+            print(
+                f"| {count:,} | `mvt check`, {WORKERS} processes | {seconds:.1f} | | {seconds:.1f} |"
+                f" {count / seconds:,.0f} | {1e6 * spent / count:.0f} | | | {refused:,} |",
+                flush=True,
+            )
 
 
 if __name__ == "__main__":

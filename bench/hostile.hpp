@@ -22,17 +22,15 @@ inline std::string small_layers(std::size_t count) {
     return tile;
 }
 
-inline std::string many_strokes(
-    std::uint32_t kind, std::size_t count, const std::vector<std::uint32_t>& stroke) {
+inline std::string many_strokes(std::uint32_t kind, std::size_t count, const std::vector<std::uint32_t> &stroke) {
     std::vector<std::uint32_t> integers;
-    for (std::size_t i = 0; i < count; ++i)
-        integers.insert(integers.end(), stroke.begin(), stroke.end());
+    for (std::size_t i = 0; i < count; ++i) integers.insert(integers.end(), stroke.begin(), stroke.end());
     Layer layer{"a"};
     layer.add(nullptr, {}, kind, integers);
     return tile_of(layer.finish());
 }
 
-inline std::string many_attributes(std::size_t count, const std::string& front) {
+inline std::string many_attributes(std::size_t count, const std::string &front) {
     return tile_of(layer_of_keys("a", count, front));
 }
 
@@ -61,11 +59,10 @@ inline std::string many_tags(std::uint32_t count) {
     return tile_of(payload);
 }
 
-inline std::string many_names(std::size_t count, const std::string& front) {
+inline std::string many_names(std::size_t count, const std::string &front) {
     std::string tile;
     for (std::size_t i = 0; i < count; ++i) {
-        put_bytes(
-            tile, 3, Layer{front + std::to_string(10'000'000 + i) + "0123456789abcdef"}.finish());
+        put_bytes(tile, 3, Layer{front + std::to_string(10'000'000 + i) + "0123456789abcdef"}.finish());
     }
     return tile;
 }
@@ -84,14 +81,12 @@ inline std::string with_digits(std::string text, std::size_t at, std::size_t num
 
 // A layer of so many texts of one length, which differ at their fronts or at their ends, and of
 // features that name them in turn. A text stands at so many places of the layer.
-inline std::string texts_in_turn(
-    std::size_t bytes, std::size_t count, bool at_front, std::size_t places) {
+inline std::string texts_in_turn(std::size_t bytes, std::size_t count, bool at_front, std::size_t places) {
     const std::string plain(bytes / 2 / count / places, 'x');
     std::string payload{"\x78\x02\x0A\x01\x61", 5}, values;
     for (std::size_t place = 0; place < places; ++place) {
         for (std::size_t i = 0; i < count; ++i) {
-            put_bytes(
-                values, 4, text_value(with_digits(plain, at_front ? 0 : plain.size() - 3, i)));
+            put_bytes(values, 4, text_value(with_digits(plain, at_front ? 0 : plain.size() - 3, i)));
         }
     }
     for (std::size_t i = 0; payload.size() < bytes / 2; ++i) {
@@ -109,8 +104,7 @@ inline std::string texts_in_turn(
 inline std::string keys_in_turn(std::size_t bytes, std::size_t count) {
     const std::string plain(bytes / 2 / count, 'x');
     std::string payload{"\x78\x02\x0A\x01\x61", 5};
-    for (std::size_t i = 0; i < count; ++i)
-        put_bytes(payload, 3, with_digits(plain, plain.size() - 3, i));
+    for (std::size_t i = 0; i < count; ++i) put_bytes(payload, 3, with_digits(plain, plain.size() - 3, i));
     put_bytes(payload, 4, uint_value(5));
     for (std::size_t i = 0; payload.size() < bytes; ++i) {
         std::string feature;

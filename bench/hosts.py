@@ -104,12 +104,30 @@ def main():
     quiet = {"stdout": subprocess.DEVNULL, "stderr": subprocess.DEVNULL, "env": env}
     address = f"tcp://{NETWORK}.{HERE}:8786"
     try:
-        scheduler = [sys.executable, "-m", "distributed.cli.dask_scheduler", "--no-dashboard", "--host", f"{NETWORK}.{HERE}"]
+        scheduler = [
+            sys.executable,
+            "-m",
+            "distributed.cli.dask_scheduler",
+            "--no-dashboard",
+            "--host",
+            f"{NETWORK}.{HERE}",
+        ]
         programs.append(subprocess.Popen(scheduler, **quiet))
         time.sleep(3)
         for number, name in enumerate(network.names, 1):
-            worker = [sys.executable, "-m", "distributed.cli.dask_worker", address, "--nthreads", "1", "--no-nanny", "--no-dashboard"]
-            programs.append(subprocess.Popen(["ip", "netns", "exec", name, *worker, "--host", f"{NETWORK}.{number}"], **quiet))
+            worker = [
+                sys.executable,
+                "-m",
+                "distributed.cli.dask_worker",
+                address,
+                "--nthreads",
+                "1",
+                "--no-nanny",
+                "--no-dashboard",
+            ]
+            programs.append(
+                subprocess.Popen(["ip", "netns", "exec", name, *worker, "--host", f"{NETWORK}.{number}"], **quiet)
+            )
         time.sleep(6)
         with tempfile.TemporaryDirectory() as room:
             audited(given, network, address, room, env)
@@ -134,9 +152,13 @@ def audited(given, network, address, room, env):
             print(f"host {HOSTS} is gone, after {done} parts")
     found = json.loads(run.communicate()[0])
     with sqlite3.connect(Path(room, "audit.sqlite")) as database:
-        rows, places = database.execute("select count(*), count(distinct (z << 50) | (x << 25) | y) from tiles").fetchone()
-    print(f"{HOSTS} hosts, {given.delay:g} ms: {found['tiles']:,} tiles in {found['seconds']['work']} s, {found['tiles_a_second']:,} a second,"
-          f" the client {1e6 * found['seconds']['client'] / found['tiles']:.1f} µs a tile; status {run.returncode}, unfinished {len(found['unfinished'])}, {rows:,} rows of {places:,} places")
+        rows, places = database.execute(
+            "select count(*), count(distinct (z << 50) | (x << 25) | y) from tiles"
+        ).fetchone()
+    print(
+        f"{HOSTS} hosts, {given.delay:g} ms: {found['tiles']:,} tiles in {found['seconds']['work']} s, {found['tiles_a_second']:,} a second,"
+        f" the client {1e6 * found['seconds']['client'] / found['tiles']:.1f} µs a tile; status {run.returncode}, unfinished {len(found['unfinished'])}, {rows:,} rows of {places:,} places"
+    )
 
 
 main()

@@ -11,7 +11,7 @@
 #include <utility>
 #include <vector>
 
-inline void put_varint(std::string& out, std::uint64_t n) {
+inline void put_varint(std::string &out, std::uint64_t n) {
     while (n >= 128) {
         out.push_back(static_cast<char>(n | 128));
         n >>= 7;
@@ -19,24 +19,24 @@ inline void put_varint(std::string& out, std::uint64_t n) {
     out.push_back(static_cast<char>(n));
 }
 
-inline void put_number(std::string& out, std::uint32_t field, std::uint64_t n) {
+inline void put_number(std::string &out, std::uint32_t field, std::uint64_t n) {
     put_varint(out, field << 3);
     put_varint(out, n);
 }
 
-inline void put_bytes(std::string& out, std::uint32_t field, const std::string& bytes) {
+inline void put_bytes(std::string &out, std::uint32_t field, const std::string &bytes) {
     put_varint(out, field << 3 | 2);
     put_varint(out, bytes.size());
     out += bytes;
 }
 
-inline std::string packed(const std::vector<std::uint32_t>& numbers) {
+inline std::string packed(const std::vector<std::uint32_t> &numbers) {
     std::string out;
     for (const auto number : numbers) put_varint(out, number);
     return out;
 }
 
-inline std::string text_value(const std::string& text) {
+inline std::string text_value(const std::string &text) {
     std::string out;
     put_bytes(out, 1, text);
     return out;
@@ -59,7 +59,7 @@ struct Pool {
     std::unordered_map<std::string, std::uint32_t> places;
     std::string fields;
 
-    std::uint32_t place(std::uint32_t field, const std::string& entry) {
+    std::uint32_t place(std::uint32_t field, const std::string &entry) {
         const auto [found, is_new] = places.emplace(entry, places.size());
         if (is_new) put_bytes(fields, field, entry);
         return found->second;
@@ -74,17 +74,17 @@ class Layer {
     Pool keys, values;
 
 public:
-    explicit Layer(const std::string& name) {
+    explicit Layer(const std::string &name) {
         put_number(payload, 15, 2);
         put_bytes(payload, 1, name);
     }
 
-    void add(const std::uint64_t* id, const Attributes& attributes, std::uint32_t kind,
-        const std::vector<std::uint32_t>& geometry) {
+    void add(const std::uint64_t *id, const Attributes &attributes, std::uint32_t kind,
+             const std::vector<std::uint32_t> &geometry) {
         std::string feature;
         if (id) put_number(feature, 1, *id);
         std::vector<std::uint32_t> tags;
-        for (const auto& [key, value] : attributes) {
+        for (const auto &[key, value] : attributes) {
             tags.push_back(keys.place(3, key));
             tags.push_back(values.place(4, value));
         }
@@ -103,9 +103,9 @@ public:
 };
 
 // A line of so many points, each to the right of and below the last.
-inline std::vector<std::uint32_t> line(std::mt19937& random, std::uint32_t points) {
+inline std::vector<std::uint32_t> line(std::mt19937 &random, std::uint32_t points) {
     std::vector<std::uint32_t> integers{9, 1 + static_cast<std::uint32_t>(random() % 8000),
-        1 + static_cast<std::uint32_t>(random() % 8000), 2 + 8 * (points - 1)};
+                                        1 + static_cast<std::uint32_t>(random() % 8000), 2 + 8 * (points - 1)};
     for (std::uint32_t i = 1; i < points; ++i) {
         integers.push_back(2 * (1 + random() % 9));
         integers.push_back(2 * (1 + random() % 9));
@@ -113,7 +113,7 @@ inline std::vector<std::uint32_t> line(std::mt19937& random, std::uint32_t point
     return integers;
 }
 
-inline std::string tile_of(const std::string& payload) {
+inline std::string tile_of(const std::string &payload) {
     std::string tile;
     put_bytes(tile, 3, payload);
     if (tile.size() > 67'108'864) {
@@ -166,10 +166,8 @@ inline std::string long_texts(std::uint64_t count) {
     Layer layer{"signs"};
     for (std::uint64_t id = 0; id < count; ++id) {
         const Attributes attributes{
-            {"name", text_value("A street whose name has the number "
-                                + std::to_string(random() % 20'000))},
-            {"operator",
-                text_value("The road office of the district " + std::to_string(random() % 100))},
+            {"name", text_value("A street whose name has the number " + std::to_string(random() % 20'000))},
+            {"operator", text_value("The road office of the district " + std::to_string(random() % 100))},
         };
         layer.add(&id, attributes, 1, {9, 50, 34});
     }

@@ -154,7 +154,9 @@ def drawn(integers):
 def spelled(feature):
     """A geometry's integers."""
     integers, x, y = [], 0, 0
-    parts = feature.geometry if feature.kind != "polygons" else [ring for polygon in feature.geometry for ring in polygon]
+    parts = (
+        feature.geometry if feature.kind != "polygons" else [ring for polygon in feature.geometry for ring in polygon]
+    )
     for part in [parts] if feature.kind == "points" else parts:
         for number, (to_x, to_y) in enumerate(part):
             if number == 0:
@@ -204,6 +206,7 @@ try:
             for kind, value in values:
                 to.values.add(**{fields.get(kind, "uint_value"): value})
         return out.SerializeToString()
+
 except ImportError:
     pass
 
@@ -238,6 +241,7 @@ try:
         gdal.VSIFCloseL(file)
         gdal.Unlink("/vsimem/out.geojson")
         return text
+
 except ImportError:
     pass
 
@@ -254,6 +258,7 @@ try:
     def read_shapely(tile, _):
         [layer] = libmvt.read(tile).layers
         return [(feature.id, feature.attributes, SHAPES[feature.kind](feature.geometry)) for feature in layer.features]
+
 except ImportError:
     pass
 

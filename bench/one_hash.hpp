@@ -22,19 +22,17 @@ inline std::string forgetful_front() {
         std::memcpy(words, front.data(), 16);
         const auto state = folded(words[0] ^ seed, words[1] ^ multiplier);
         if ((state & 0x8080808080808080) == 0) {
-            front.append(reinterpret_cast<const char*>(&state), 8);
+            front.append(reinterpret_cast<const char *>(&state), 8);
             return front;
         }
     }
 }
 
 // The payload of a layer with one feature, whose keys begin with these 24 bytes.
-inline std::string layer_of_keys(
-    const std::string& name, std::size_t count, const std::string& front) {
+inline std::string layer_of_keys(const std::string &name, std::size_t count, const std::string &front) {
     Attributes attributes;
     for (std::size_t i = 0; i < count; ++i)
-        attributes.emplace_back(
-            front + std::to_string(10'000'000 + i) + "0123456789abcdef", uint_value(5));
+        attributes.emplace_back(front + std::to_string(10'000'000 + i) + "0123456789abcdef", uint_value(5));
     Layer layer{name};
     layer.add(nullptr, attributes, 1, {9, 50, 34});
     return layer.finish();

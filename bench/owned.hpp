@@ -42,28 +42,28 @@ inline Value value_of(protozero::pbf_reader message) {
     Value value = false;
     while (message.next()) {
         switch (message.tag()) {
-            case 1: value = message.get_string(); break;
-            case 2: value = message.get_float(); break;
-            case 3: value = message.get_double(); break;
-            case 4: value = message.get_int64(); break;
-            case 5: value = message.get_uint64(); break;
-            case 6: value = Sint{message.get_sint64()}; break;
-            case 7: value = message.get_bool(); break;
-            default: message.skip();
+        case 1: value = message.get_string(); break;
+        case 2: value = message.get_float(); break;
+        case 3: value = message.get_double(); break;
+        case 4: value = message.get_int64(); break;
+        case 5: value = message.get_uint64(); break;
+        case 6: value = Sint{message.get_sint64()}; break;
+        case 7: value = message.get_bool(); break;
+        default: message.skip();
         }
     }
     return value;
 }
 
 template <typename Numbers>
-std::vector<std::vector<Point>> lines_of(const Numbers& numbers) {
+std::vector<std::vector<Point>> lines_of(const Numbers &numbers) {
     std::vector<std::vector<Point>> lines;
     std::int32_t x = 0, y = 0;
     for (auto at = numbers.begin(); at != numbers.end();) {
         const std::uint32_t command = *at++;
         if ((command & 7) == 7) continue;
         if ((command & 7) == 1) lines.emplace_back();
-        auto& line = lines.back();
+        auto &line = lines.back();
         line.reserve(line.size() + (command >> 3));
         for (std::uint32_t i = 0; i < command >> 3; ++i) {
             x += protozero::decode_zigzag32(*at++);
@@ -74,24 +74,24 @@ std::vector<std::vector<Point>> lines_of(const Numbers& numbers) {
     return lines;
 }
 
-inline Feature feature_of(protozero::pbf_reader message, const std::vector<std::string>& keys,
-    const std::vector<Value>& values) {
+inline Feature feature_of(protozero::pbf_reader message, const std::vector<std::string> &keys,
+                          const std::vector<Value> &values) {
     Feature feature;
     while (message.next()) {
         switch (message.tag()) {
-            case 1: feature.id = message.get_uint64(); break;
-            case 2: {
-                const auto tags = message.get_packed_uint32();
-                for (auto at = tags.begin(); at != tags.end();) {
-                    const auto key = *at++;
-                    const auto value = *at++;
-                    feature.attributes.push_back({keys.at(key), values.at(value)});
-                }
-                break;
+        case 1: feature.id = message.get_uint64(); break;
+        case 2: {
+            const auto tags = message.get_packed_uint32();
+            for (auto at = tags.begin(); at != tags.end();) {
+                const auto key = *at++;
+                const auto value = *at++;
+                feature.attributes.push_back({keys.at(key), values.at(value)});
             }
-            case 3: feature.kind = message.get_enum(); break;
-            case 4: feature.lines = lines_of(message.get_packed_uint32()); break;
-            default: message.skip();
+            break;
+        }
+        case 3: feature.kind = message.get_enum(); break;
+        case 4: feature.lines = lines_of(message.get_packed_uint32()); break;
+        default: message.skip();
         }
     }
     return feature;
@@ -103,11 +103,11 @@ inline Layer layer_of(protozero::pbf_reader message) {
     std::vector<Value> values;
     for (auto fields = message; fields.next();) {
         switch (fields.tag()) {
-            case 1: layer.name = fields.get_string(); break;
-            case 3: keys.push_back(fields.get_string()); break;
-            case 4: values.push_back(value_of(fields.get_message())); break;
-            case 5: layer.extent = fields.get_uint32(); break;
-            default: fields.skip();
+        case 1: layer.name = fields.get_string(); break;
+        case 3: keys.push_back(fields.get_string()); break;
+        case 4: values.push_back(value_of(fields.get_message())); break;
+        case 5: layer.extent = fields.get_uint32(); break;
+        default: fields.skip();
         }
     }
     for (auto fields = message; fields.next(2);) {
@@ -116,18 +116,17 @@ inline Layer layer_of(protozero::pbf_reader message) {
     return layer;
 }
 
-inline std::vector<Layer> tile_of(const std::string& bytes) {
+inline std::vector<Layer> tile_of(const std::string &bytes) {
     std::vector<Layer> layers;
-    for (protozero::pbf_reader message{bytes}; message.next(3);)
-        layers.push_back(layer_of(message.get_message()));
+    for (protozero::pbf_reader message{bytes}; message.next(3);) layers.push_back(layer_of(message.get_message()));
     return layers;
 }
 
 // How many layers and features there are, and 1.
-inline std::uint64_t count(const std::vector<Layer>& layers) {
+inline std::uint64_t count(const std::vector<Layer> &layers) {
     std::uint64_t sum = 1 + layers.size();
-    for (const auto& layer : layers) sum += layer.features.size();
+    for (const auto &layer : layers) sum += layer.features.size();
     return sum;
 }
 
-}  // namespace owned
+} // namespace owned

@@ -70,8 +70,12 @@ def layer(dice, name, size):
 
     while total < size:
         number += 1
-        entries = [field(1, dice.choice(CLASSES)), field(1, b"Street %d" % dice.randrange(9000)),
-                   b"\x19" + struct.pack("<d", dice.randrange(400) / 4), field(5, dice.randrange(60))]
+        entries = [
+            field(1, dice.choice(CLASSES)),
+            field(1, b"Street %d" % dice.randrange(9000)),
+            b"\x19" + struct.pack("<d", dice.randrange(400) / 4),
+            field(5, dice.randrange(60)),
+        ]
         tags = packed(number for key, entry in enumerate(entries) for number in (key, place(entry)))
         kind, integers = shape(dice)
         body = field(1, number) + field(2, tags) + field(3, kind) + field(4, packed(integers))
@@ -131,11 +135,15 @@ def main():
             apart(make, file.name, layers, size)
             runs = [("`mvt %s`" % word, [program, word]) for word in ("check", "show", "rewrite")]
             names = ["layer %d" % index for index in range(layers)]
-            runs += [("`mvt extract` of all layers", [program, "extract"] + names),
-                     ("`mvt extract` of one layer", [program, "extract", names[0]])]
-            runs += [("`protoc --decode`", PROTO),
-                     ("`ogrinfo -al -so`", ["ogrinfo", "-al", "-so", "MVT:" + file.name]),
-                     ("`ogrinfo -al -q`", ["ogrinfo", "-al", "-q", "MVT:" + file.name])]
+            runs += [
+                ("`mvt extract` of all layers", [program, "extract"] + names),
+                ("`mvt extract` of one layer", [program, "extract", names[0]]),
+            ]
+            runs += [
+                ("`protoc --decode`", PROTO),
+                ("`ogrinfo -al -so`", ["ogrinfo", "-al", "-so", "MVT:" + file.name]),
+                ("`ogrinfo -al -q`", ["ogrinfo", "-al", "-q", "MVT:" + file.name]),
+            ]
             size = os.path.getsize(file.name)
             for name, words in runs:
                 seconds, peak, status = min(run(words, file.name) for _ in range(ROUNDS))
@@ -143,7 +151,10 @@ def main():
                 print("| %s (%d bytes) | %s%s | %.3f | %.0f |" % (label, size, name, said, seconds, peak), flush=True)
             if library:
                 seconds, status = apart(judged, library, file.name)
-                print("| %s (%d bytes) | `mvt_judge`%s | %.3f | |" % (label, size, "" if status == 0 else ", refused", seconds))
+                print(
+                    "| %s (%d bytes) | `mvt_judge`%s | %.3f | |"
+                    % (label, size, "" if status == 0 else ", refused", seconds)
+                )
 
 
 main()

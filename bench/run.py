@@ -37,9 +37,7 @@ def run(checkout: Path, crate: str, words: list[str], seed: str) -> tuple[float,
     program = checkout / "crates" / crate / "out" / crate
     with source.open("rb") as stdin:
         began = of_children()
-        done = subprocess.run(
-            [program, *words], cwd=folder, stdin=stdin, stdout=subprocess.PIPE, check=True
-        )
+        done = subprocess.run([program, *words], cwd=folder, stdin=stdin, stdout=subprocess.PIPE, check=True)
         return of_children() - began, done.stdout
 
 

@@ -15,18 +15,17 @@
 #include <string>
 #include <vector>
 
-extern "C" std::uint64_t mvt_decode(const unsigned char* bytes, std::size_t len, bool keeps);
-extern "C" std::uint64_t mvt_feed(const unsigned char* bytes, std::size_t len, std::size_t piece);
-extern "C" std::uint64_t mvt_write(
-    const unsigned char* bytes, std::size_t len, std::uint32_t times);
-extern "C" bool mvt_is_canonical(const unsigned char* bytes, std::size_t len);
-extern "C" std::uint64_t mvt_read_item(const unsigned char* payload, std::size_t len);
+extern "C" std::uint64_t mvt_decode(const unsigned char *bytes, std::size_t len, bool keeps);
+extern "C" std::uint64_t mvt_feed(const unsigned char *bytes, std::size_t len, std::size_t piece);
+extern "C" std::uint64_t mvt_write(const unsigned char *bytes, std::size_t len, std::uint32_t times);
+extern "C" bool mvt_is_canonical(const unsigned char *bytes, std::size_t len);
+extern "C" std::uint64_t mvt_read_item(const unsigned char *payload, std::size_t len);
 
 static constexpr std::uint32_t times = 4;
 
 // The rows of one tile that has so many layers and features.
-static void rows(const char* name, const std::string& tile, std::uint64_t parts) {
-    const auto* bytes = reinterpret_cast<const unsigned char*>(tile.data());
+static void rows(const char *name, const std::string &tile, std::uint64_t parts) {
+    const auto *bytes = reinterpret_cast<const unsigned char *>(tile.data());
     const auto len = tile.size();
     const auto expected = parts + 1;
     if (run_apart([&] { return mvt_is_canonical(bytes, len); }).answer != 1) {
@@ -41,12 +40,11 @@ static void rows(const char* name, const std::string& tile, std::uint64_t parts)
         {"`feed` of 4,096 bytes", expected, [&] { return mvt_feed(bytes, len, 4096); }},
         {"`feed` of all bytes", expected, [&] { return mvt_feed(bytes, len, len); }},
         {"protozero into values", expected,
-            [&] { return owned::count(*new std::vector<owned::Layer>(owned::tile_of(tile))); }},
+         [&] { return owned::count(*new std::vector<owned::Layer>(owned::tile_of(tile))); }},
     };
     auto best = best_apart(works);
     best[1].seconds = (best[1].seconds - best[0].seconds) / times;
-    for (std::size_t i = 0; i < works.size(); ++i)
-        line_of(name, works[i].name, best[i].seconds, best[i].megabytes);
+    for (std::size_t i = 0; i < works.size(); ++i) line_of(name, works[i].name, best[i].seconds, best[i].megabytes);
 }
 
 int main() {
@@ -57,10 +55,8 @@ int main() {
     rows("500,000 features, texts above 30 bytes", tile_of(long_texts(500'000)), 500'001);
     const auto payload = many_features(100'000);
     const std::vector<Work> works{
-        {"`read_item`", 100'001, [&] {
-             return mvt_read_item(
-                 reinterpret_cast<const unsigned char*>(payload.data()), payload.size());
-         }}};
+        {"`read_item`", 100'001,
+         [&] { return mvt_read_item(reinterpret_cast<const unsigned char *>(payload.data()), payload.size()); }}};
     const auto best = best_apart(works);
     line_of("100,000 features", works[0].name, best[0].seconds, best[0].megabytes);
 }

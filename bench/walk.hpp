@@ -21,19 +21,19 @@ inline void require(bool holds) {
 }
 
 // How many values a message Value holds, which has to be one.
-inline void judge_value(protozero::pbf_reader message, std::uint64_t& sum) {
+inline void judge_value(protozero::pbf_reader message, std::uint64_t &sum) {
     int kinds = 0;
     while (message.next()) {
         ++kinds;
         switch (message.tag()) {
-            case 1: sum += message.get_view().size(); break;
-            case 2: sum += message.get_float() > 0; break;
-            case 3: sum += message.get_double() > 0; break;
-            case 4: sum += static_cast<std::uint64_t>(message.get_int64()); break;
-            case 5: sum += message.get_uint64(); break;
-            case 6: sum += static_cast<std::uint64_t>(message.get_sint64()); break;
-            case 7: sum += message.get_bool(); break;
-            default: --kinds; message.skip();
+        case 1: sum += message.get_view().size(); break;
+        case 2: sum += message.get_float() > 0; break;
+        case 3: sum += message.get_double() > 0; break;
+        case 4: sum += static_cast<std::uint64_t>(message.get_int64()); break;
+        case 5: sum += message.get_uint64(); break;
+        case 6: sum += static_cast<std::uint64_t>(message.get_sint64()); break;
+        case 7: sum += message.get_bool(); break;
+        default: --kinds; message.skip();
         }
     }
     require(kinds == 1);
@@ -42,10 +42,10 @@ inline void judge_value(protozero::pbf_reader message, std::uint64_t& sum) {
 // The path that the integers of a geometry draw, point by point, with twice the area of each ring.
 class Path {
 public:
-    explicit Path(std::uint32_t kind, std::uint64_t& sum) : kind_(kind), sum_(sum) {}
+    explicit Path(std::uint32_t kind, std::uint64_t &sum) : kind_(kind), sum_(sum) {}
 
     template <typename Numbers>
-    void judge(const Numbers& numbers) {
+    void judge(const Numbers &numbers) {
         auto at = numbers.begin();
         const auto end = numbers.end();
         std::uint32_t last = 0;
@@ -59,9 +59,12 @@ public:
                 continue;
             }
             require((command == 1 || command == 2) && count != 0);
-            if (kind_ == 1) require(command == 1);
-            else if (command == 1) require(count == 1 && last != 1);
-            else require(last == 1);
+            if (kind_ == 1)
+                require(command == 1);
+            else if (command == 1)
+                require(count == 1 && last != 1);
+            else
+                require(last == 1);
             if (command == 1) fresh_ = true;
             for (std::uint32_t i = 0; i < count; ++i) {
                 require(at != end);
@@ -102,24 +105,24 @@ private:
     }
 
     std::uint32_t kind_;
-    std::uint64_t& sum_;
+    std::uint64_t &sum_;
     std::int64_t x_ = 0, y_ = 0, first_x_ = 0, first_y_ = 0;
     __int128 area_ = 0;
     bool fresh_ = true;
 };
 
-inline void judge_feature(protozero::pbf_reader message,
-    const std::vector<protozero::data_view>& keys, std::size_t values, std::uint64_t& sum) {
+inline void judge_feature(protozero::pbf_reader message, const std::vector<protozero::data_view> &keys,
+                          std::size_t values, std::uint64_t &sum) {
     using Numbers = protozero::iterator_range<protozero::pbf_reader::const_uint32_iterator>;
     Numbers tags, geometry;
     std::uint32_t kind = 0;
     while (message.next()) {
         switch (message.tag()) {
-            case 1: sum += message.get_uint64(); break;
-            case 2: tags = message.get_packed_uint32(); break;
-            case 3: kind = static_cast<std::uint32_t>(message.get_enum()); break;
-            case 4: geometry = message.get_packed_uint32(); break;
-            default: message.skip();
+        case 1: sum += message.get_uint64(); break;
+        case 2: tags = message.get_packed_uint32(); break;
+        case 3: kind = static_cast<std::uint32_t>(message.get_enum()); break;
+        case 4: geometry = message.get_packed_uint32(); break;
+        default: message.skip();
         }
     }
     for (auto at = tags.begin(); at != tags.end();) {
@@ -134,34 +137,35 @@ inline void judge_feature(protozero::pbf_reader message,
     Path{kind, sum}.judge(geometry);
 }
 
-inline void judge_layer(protozero::pbf_reader message, std::uint64_t& sum) {
+inline void judge_layer(protozero::pbf_reader message, std::uint64_t &sum) {
     std::vector<protozero::data_view> keys, values, features;
     std::uint32_t version = 0;
     while (message.next()) {
         switch (message.tag()) {
-            case 1: sum += message.get_view().size(); break;
-            case 2: features.push_back(message.get_view()); break;
-            case 3: keys.push_back(message.get_view()); break;
-            case 4: values.push_back(message.get_view()); break;
-            case 5: sum += message.get_uint32(); break;
-            case 15: version = message.get_uint32(); break;
-            default: message.skip();
+        case 1: sum += message.get_view().size(); break;
+        case 2: features.push_back(message.get_view()); break;
+        case 3: keys.push_back(message.get_view()); break;
+        case 4: values.push_back(message.get_view()); break;
+        case 5: sum += message.get_uint32(); break;
+        case 15: version = message.get_uint32(); break;
+        default: message.skip();
         }
     }
     require(version == 2);
-    for (const auto& value : values) judge_value(protozero::pbf_reader{value}, sum);
-    for (const auto& feature : features)
-        judge_feature(protozero::pbf_reader{feature}, keys, values.size(), sum);
+    for (const auto &value : values) judge_value(protozero::pbf_reader{value}, sum);
+    for (const auto &feature : features) judge_feature(protozero::pbf_reader{feature}, keys, values.size(), sum);
 }
 
 // A sum over what was read, so that nothing is left out. Throws for bytes that break a rule.
-inline std::uint64_t judge(const std::string& bytes) {
+inline std::uint64_t judge(const std::string &bytes) {
     std::uint64_t sum = 1;
     for (protozero::pbf_reader message{bytes}; message.next();) {
-        if (message.tag() == 3) judge_layer(message.get_message(), sum);
-        else message.skip();
+        if (message.tag() == 3)
+            judge_layer(message.get_message(), sum);
+        else
+            message.skip();
     }
     return sum;
 }
 
-}  // namespace walk
+} // namespace walk

@@ -68,7 +68,16 @@ def of_command(name):
     parts = [f"# NAME\n\n{name} - {line}\n", "# DESCRIPTION\n", _body(document)]
     if module:
         parts.insert(1, f"# SYNOPSIS\n\n{_help(module)}")
-    words = ["-V", f"title={name.upper()}", "-V", "section=1", "-V", f"footer=mvt {VERSION}", "-V", "header=User Commands"]
+    words = [
+        "-V",
+        f"title={name.upper()}",
+        "-V",
+        "section=1",
+        "-V",
+        f"footer=mvt {VERSION}",
+        "-V",
+        "header=User Commands",
+    ]
     command = ["pandoc", "-s", "-f", "markdown-smart", "-t", "man", *words]
     return _narrowed(subprocess.run(command, input="\n".join(parts), capture_output=True, text=True, check=True).stdout)
 
@@ -96,7 +105,16 @@ def of_library():
     head = re.search(r"/\* mvt: (.*?)\*/", HEADER, re.S)[1]
     lines = [f'.TH MVT 3 "" "mvt {VERSION}" "Library Functions"', ".SH NAME"]
     lines += [f"{', '.join(calls)} \\- read, judge and write Mapbox Vector Tiles"]
-    lines += [".SH SYNOPSIS", ".nf", "#include <mvt.h>", ".fi", ".PP", "Link with", ".BR \"pkg\\-config \\-\\-cflags \\-\\-libs mvt\" .", ".SH DESCRIPTION"]
+    lines += [
+        ".SH SYNOPSIS",
+        ".nf",
+        "#include <mvt.h>",
+        ".fi",
+        ".PP",
+        "Link with",
+        '.BR "pkg\\-config \\-\\-cflags \\-\\-libs mvt" .',
+        ".SH DESCRIPTION",
+    ]
     lines += [_paragraph(head).rstrip(), ".SH CALLS AND STRUCTURES"]
     body = HEADER[HEADER.index("typedef enum {\n    MVT_OK") : HEADER.rindex("#ifdef __GNUC__")]
     for comment, code in BLOCK.findall(body):

@@ -25,12 +25,16 @@ DONE = {
 def said(root: Path, words: list[str]) -> str:
     """What `rt ci` said, each line behind the seconds since it began, and last what it took of processors."""
     began, lines = time.monotonic(), []
-    with subprocess.Popen(["rt", "ci", *words], cwd=root, stdout=subprocess.PIPE, stderr=subprocess.STDOUT, text=True) as process:
+    with subprocess.Popen(
+        ["rt", "ci", *words], cwd=root, stdout=subprocess.PIPE, stderr=subprocess.STDOUT, text=True
+    ) as process:
         for line in process.stdout or ():
             lines.append(f"{time.monotonic() - began:.1f} {line}")
             sys.stderr.write(line)
     used = resource.getrusage(resource.RUSAGE_CHILDREN)
-    lines.append(f"{time.monotonic() - began:.1f} status {process.returncode}, {used.ru_utime + used.ru_stime:.0f} of processors\n")
+    lines.append(
+        f"{time.monotonic() - began:.1f} status {process.returncode}, {used.ru_utime + used.ru_stime:.0f} of processors\n"
+    )
     return "".join(lines)
 
 
@@ -45,7 +49,11 @@ def main() -> None:
     last = {what: {crate: float(at) / 60 for at, crate in form.findall(text)} for what, form in DONE.items()}
     print("| Crate | " + " | ".join(DONE) + " |\n|---|---|---|---|")
     for crate in sorted(last["proved"], key=last["proved"].__getitem__):
-        print(f"| {crate} | " + " | ".join(f"{last[what][crate]:.0f}" if crate in last[what] else "" for what in DONE) + " |")
+        print(
+            f"| {crate} | "
+            + " | ".join(f"{last[what][crate]:.0f}" if crate in last[what] else "" for what in DONE)
+            + " |"
+        )
     took, status, used = re.findall(r"^(\d+)\.\d status (\d+), (\d+) of processors", text, re.M)[-1]
     print(f"\nstatus {status}, {int(took) / 60:.0f} minutes, {int(used) / 60:.0f} of processors")
     print("".join(re.findall(r"^\d+\.\d (rt: ok.*\n)", text, re.M)[-1:]), end="", flush=True)

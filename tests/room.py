@@ -15,9 +15,23 @@ TILES = TOP / "fixtures" / "tiles"
 MVT = Path(os.environ.get("MVT", TOP / "crates/mvt_cli/out/mvt_cli")).resolve()
 BUILT = Path(os.environ.get("BUILT", TOP / "library" / "out")).resolve()
 C = ["cc", "-std=c11", "-O1", "-g", "-Wall", "-Wextra", "-Werror", f"-I{TOP}/library/c"]
-CXX = ["-std=c++20", "-O1", "-g", "-Wall", "-Wextra", "-Wpedantic", "-Werror", f"-I{TOP}/library/c", f"-I{TOP}/library/cpp"]
+CXX = [
+    "-std=c++20",
+    "-O1",
+    "-g",
+    "-Wall",
+    "-Wextra",
+    "-Wpedantic",
+    "-Werror",
+    f"-I{TOP}/library/c",
+    f"-I{TOP}/library/cpp",
+]
 # The path under which Go's module is published.
-GO_MODULE = next(line.partition("=")[2] for line in (TOP / "packaging/names").read_text().splitlines() if line.startswith("go_module="))
+GO_MODULE = next(
+    line.partition("=")[2]
+    for line in (TOP / "packaging/names").read_text().splitlines()
+    if line.startswith("go_module=")
+)
 SANITIZED = ["-fsanitize=address,undefined", "-fno-sanitize-recover=all"]
 # Words for a program whose lines are counted, and those of C in the library, where tests/library/run built an object that counts.
 COUNTED = ["-O0", "--coverage"] if "MVT_COUNTED" in os.environ else []
@@ -40,7 +54,9 @@ def run(*words, status=0, timeout=900, text=True, **how):
     """A run that has to end with this status."""
     words = [str(word) for word in words]
     done = subprocess.run(words, stdout=subprocess.PIPE, stderr=subprocess.PIPE, text=text, timeout=timeout, **how)
-    assert done.returncode == status, f"{' '.join(words)[:300]}: status {done.returncode}\n{done.stdout[-3000:]}\n{done.stderr[-6000:]}"
+    assert (
+        done.returncode == status
+    ), f"{' '.join(words)[:300]}: status {done.returncode}\n{done.stdout[-3000:]}\n{done.stderr[-6000:]}"
     return done
 
 
@@ -48,7 +64,11 @@ def compiled(source, *words, compiler=None):
     """A program of one source over the library, compiled with these words beside."""
     first = compiler or (C if source.suffix == ".c" else ["g++", *CXX])
     name = "-".join(["program", source.stem, *(word.strip("-").split("=")[0].split("/")[-1] for word in words)])
-    library = [BUILT / "libmvt.a"] if "--coverage" not in words else [Path(os.environ["MVT_COUNTED"], "mvt.o"), BUILT / "libmvt.a"]
+    library = (
+        [BUILT / "libmvt.a"]
+        if "--coverage" not in words
+        else [Path(os.environ["MVT_COUNTED"], "mvt.o"), BUILT / "libmvt.a"]
+    )
     return made(name, lambda path: run(*first, *words, "-o", path, source, *library, *words))
 
 

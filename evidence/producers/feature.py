@@ -27,7 +27,7 @@ def fields(data):
             value, at = varint(data, at)
         else:
             length, at = (8, at) if tag & 7 == 1 else (4, at) if tag & 7 == 5 else varint(data, at)
-            value, at = data[at:at + length], at + length
+            value, at = data[at : at + length], at + length
         yield tag >> 3, value
 
 
@@ -101,4 +101,6 @@ def features_of(tile):
         bodies = [body for number, body in items if number == 2]
         for place, body in enumerate(bodies):
             feature = dict(fields(body))
-            yield Feature((index, place), of[1].decode(), of.get(5, 4096), feature.get(3, 0), numbers_of(feature.get(4, b"")))
+            yield Feature(
+                (index, place), of[1].decode(), of.get(5, 4096), feature.get(3, 0), numbers_of(feature.get(4, b""))
+            )

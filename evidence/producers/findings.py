@@ -20,8 +20,12 @@ here = pathlib.Path(__file__).parent.resolve()
 top = here.parent.parent
 mvt = top / "crates/mvt_cli/out/mvt_cli"
 
-PACKAGES = {"gdal": ("GDAL", "gdal-bin"), "postgis": ("PostGIS", "postgresql-15-postgis-3"),
-            "tilemaker": ("tilemaker", "tilemaker"), "mapserver": ("MapServer", "mapserver-bin")}
+PACKAGES = {
+    "gdal": ("GDAL", "gdal-bin"),
+    "postgis": ("PostGIS", "postgresql-15-postgis-3"),
+    "tilemaker": ("tilemaker", "tilemaker"),
+    "mapserver": ("MapServer", "mapserver-bin"),
+}
 REFUSED = re.compile(r"(.*): layer (\S+) feature (\S+) at (\d+): (\d+) (\w+)")
 NUMBERS = {}  # of the causes that were told
 
@@ -42,7 +46,9 @@ def named(key):
 
 def check(files):
     """What `mvt check` says of the files: those with notes, and the refused ones with layer, feature, place and cause."""
-    run = subprocess.run(["xargs", "-0", mvt, "check"], input="\0".join(map(str, files)), capture_output=True, text=True)
+    run = subprocess.run(
+        ["xargs", "-0", mvt, "check"], input="\0".join(map(str, files)), capture_output=True, text=True
+    )
     notes = collections.defaultdict(set)
     for line in run.stdout.splitlines():
         if ": note " in line:
@@ -103,7 +109,9 @@ def table_of_sets(folders, found):
         causes = collections.Counter(cause for *_, cause in refused.values())
         by_cause = ", ".join(f"{cause} {n}" for cause, n in causes.most_common()) or "-"
         by_note = ", ".join(f"{note} {len(files)}" for note, files in sorted(notes.items())) or "-"
-        rows.append(f"| {named(producer(folder.name))} | {folder.name} | {len(tiles):,} | {len(refused):,} | {by_cause} | {by_note} |")
+        rows.append(
+            f"| {named(producer(folder.name))} | {folder.name} | {len(tiles):,} | {len(refused):,} | {by_cause} | {by_note} |"
+        )
     return rows + ["", f"`mvt lint` finds {', '.join(findings) or 'nothing'} in the accepted tiles."]
 
 
@@ -113,7 +121,9 @@ def is_corner(feature, at):
 
 
 def smallest(cases):
-    return min(cases, key=lambda case: (len(case[1].integers), abs(ring_area(case[1].first_ring())), case[0], case[1].where))
+    return min(
+        cases, key=lambda case: (len(case[1].integers), abs(ring_area(case[1].first_ring())), case[0], case[1].where)
+    )
 
 
 def section(key, kind, cases, pictures):
@@ -140,7 +150,9 @@ def section(key, kind, cases, pictures):
     lines[-1] += f" The smallest, feature {feature.where[1]} of layer `{feature.layer}` of `{tile}`, {what}:"
     lines += ["", "    " + " ".join(map(str, feature.integers)), ""]
     by_protoc, by_gdal = protoc_says(feature.tile()), gdal_says(feature.tile())
-    lines.append(f"`ogrinfo` {by_gdal}." if by_protoc == "accepts it" else f"`protoc` {by_protoc}. `ogrinfo` {by_gdal}.")
+    lines.append(
+        f"`ogrinfo` {by_gdal}." if by_protoc == "accepts it" else f"`protoc` {by_protoc}. `ogrinfo` {by_gdal}."
+    )
     if pictures:
         name = f"{key}-{re.sub('[^a-zA-Z0-9]+', '-', kind).lower()}.svg"
         (pictures / name).write_text(picture(feature, at, cause))

@@ -125,7 +125,10 @@ def compare(folder):
                     found[kind] += 1
                     examples.setdefault(kind, f"{path}, layer {layer}, feature {at}")
     told = ", ".join(f"{kind} {count} (such as {examples[kind]})" for kind, count in found.items()) or "nothing differs"
-    print(f"{folder}: {tiles:,} tiles, {features:,} features, {refused:,} refused, {beyond:,} beyond the world; {told}", flush=True)
+    print(
+        f"{folder}: {tiles:,} tiles, {features:,} features, {refused:,} refused, {beyond:,} beyond the world; {told}",
+        flush=True,
+    )
     return not found
 
 

@@ -16,9 +16,11 @@ def picture(feature, at, cause):
         return (point[0] - left) * across + MARGIN, (point[1] - top) * down + MARGIN
 
     wide, high = max(width * across + 2 * MARGIN, 560), height * down + 2 * MARGIN
-    lines = [f'<svg xmlns="http://www.w3.org/2000/svg" width="{wide:.0f}" height="{high + 24:.0f}" font-family="sans-serif" font-size="13">',
-             '<rect width="100%" height="100%" fill="#fff"/>',
-             '<defs><marker id="on" viewBox="0 0 10 10" refX="5" refY="5" markerWidth="10" markerHeight="10" orient="auto"><path d="M0 0L10 5L0 10z" fill="#d55e00"/></marker></defs>']
+    lines = [
+        f'<svg xmlns="http://www.w3.org/2000/svg" width="{wide:.0f}" height="{high + 24:.0f}" font-family="sans-serif" font-size="13">',
+        '<rect width="100%" height="100%" fill="#fff"/>',
+        '<defs><marker id="on" viewBox="0 0 10 10" refX="5" refY="5" markerWidth="10" markerHeight="10" orient="auto"><path d="M0 0L10 5L0 10z" fill="#d55e00"/></marker></defs>',
+    ]
     lines += grid(left, top, width, height, place)
     for path in paths:
         closed = path + path[:1] if feature.type == 3 else path
@@ -30,7 +32,9 @@ def picture(feature, at, cause):
         x, y = place(feature.position_at(at))
         lines.append(f'<circle cx="{x:.1f}" cy="{y:.1f}" r="10" fill="none" stroke="#d55e00" stroke-width="2"/>')
     stretched = "; stretched" if across != down and width and height else ""
-    lines.append(f'<text x="{MARGIN}" y="{high + 8:.0f}">{width:,} by {height:,} units{stretched}; layer extent {feature.extent:,}</text>')
+    lines.append(
+        f'<text x="{MARGIN}" y="{high + 8:.0f}">{width:,} by {height:,} units{stretched}; layer extent {feature.extent:,}</text>'
+    )
     return "\n".join(lines + ["</svg>\n"])
 
 

@@ -8,7 +8,11 @@ here = pathlib.Path(__file__).parent.resolve()
 
 
 def protoc_says(tile):
-    run = subprocess.run(["protoc", f"-I{here.parents[1]}/fixtures/tiles", "--decode=Tile", "vector_tile.proto"], input=tile, capture_output=True)
+    run = subprocess.run(
+        ["protoc", f"-I{here.parents[1]}/fixtures/tiles", "--decode=Tile", "vector_tile.proto"],
+        input=tile,
+        capture_output=True,
+    )
     return "refuses it" if run.returncode else "accepts it" if not run.stderr else "accepts it with a warning"
 
 

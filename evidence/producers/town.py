@@ -30,12 +30,14 @@ def node(lon, lat):
 
 
 def house():
-    lon, lat, size, turn = between(0, SIDE), between(0, SIDE), between(.00002, .0002), between(0, math.tau)
+    lon, lat, size, turn = between(0, SIDE), between(0, SIDE), between(0.00002, 0.0002), between(0, math.tau)
     corners = 4 + int(between(0, 5))
     refs = []
     for corner in range(corners):
         angle = turn + corner * math.tau / corners
-        refs.append(node(lon + size * math.cos(angle) * between(.2, 1), lat + size * math.sin(angle) * between(.2, 1)))
+        refs.append(
+            node(lon + size * math.cos(angle) * between(0.2, 1), lat + size * math.sin(angle) * between(0.2, 1))
+        )
     ways.append((refs + refs[:1], "building", "yes"))
 
 
@@ -44,8 +46,8 @@ def road():
     refs = []
     for _ in range(20):
         refs.append(node(lon, lat))
-        turn += between(-.5, .5)
-        lon, lat = lon + .0005 * math.cos(turn), lat + .0005 * math.sin(turn)
+        turn += between(-0.5, 0.5)
+        lon, lat = lon + 0.0005 * math.cos(turn), lat + 0.0005 * math.sin(turn)
     ways.append((refs, "highway", "residential"))
 
 
@@ -57,5 +59,9 @@ print("<?xml version='1.0' encoding='UTF-8'?>\n<osm version='0.6' generator='tow
 for number, (lon, lat) in enumerate(nodes, 1):
     print(f"<node id='{number}' version='1' lon='{lon:.7f}' lat='{lat:.7f}'/>")
 for number, (refs, key, value) in enumerate(ways, 1):
-    print(f"<way id='{number}' version='1'>" + "".join(f"<nd ref='{ref}'/>" for ref in refs) + f"<tag k='{key}' v='{value}'/></way>")
+    print(
+        f"<way id='{number}' version='1'>"
+        + "".join(f"<nd ref='{ref}'/>" for ref in refs)
+        + f"<tag k='{key}' v='{value}'/></way>"
+    )
 print("</osm>")

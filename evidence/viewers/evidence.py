@@ -14,7 +14,9 @@ SAFE = 2**53 - 1
 def layer(name, features, extent=4096, entries=b""):
     """No extent where it is None; keys and values are spelled by the caller."""
     head = field(15, 2) + field(1, name.encode())
-    return field(3, head + b"".join(field(2, f) for f in features) + entries + (b"" if extent is None else field(5, extent)))
+    return field(
+        3, head + b"".join(field(2, f) for f in features) + entries + (b"" if extent is None else field(5, extent))
+    )
 
 
 def geometry(kind, integers):
@@ -57,8 +59,18 @@ def leftwards(extent, far):
 
 def far_tiles():
     """Of an extent of 32768 a unit is a fourth of an 8192th: 131070 is 32767.5, and -131074 is -32768.5."""
-    for far, extent in ((16384, 4096), (16383, 4096), (2048, 512), (2047, 512), (4, 1), (3, 1), (262143, 65536), (30000, 65536),
-                        (131070, 32768), (131069, 32768)):
+    for far, extent in (
+        (16384, 4096),
+        (16383, 4096),
+        (2048, 512),
+        (2047, 512),
+        (4, 1),
+        (3, 1),
+        (262143, 65536),
+        (30000, 65536),
+        (131070, 32768),
+        (131069, 32768),
+    ):
         yield f"right-{far}-of-{extent}", tile([corner(extent, far)], extent)
     for far, extent in ((-16385, 4096), (-16384, 4096), (-131074, 32768), (-131073, 32768)):
         yield f"left{far}-of-{extent}", tile([leftwards(extent, far)], extent)

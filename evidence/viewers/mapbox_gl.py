@@ -15,9 +15,11 @@ SIZE = 512
 ZOOM = 3  # of a sheet, which has a whole world of tiles
 SCREENS = itertools.count(100 + os.getpid() % 1000 * 20)  # a screen of its own for each picture
 COLOURS = ["#00aa00", "#aa0000", "#0000aa", "#aa7700"]
-PAINT = {"fill": lambda c: {"fill-color": c, "fill-antialias": False},
-         "line": lambda c: {"line-color": c, "line-width": 2},
-         "circle": lambda c: {"circle-color": c, "circle-radius": 5}}
+PAINT = {
+    "fill": lambda c: {"fill-color": c, "fill-antialias": False},
+    "line": lambda c: {"line-color": c, "line-width": 2},
+    "circle": lambda c: {"circle-color": c, "circle-radius": 5},
+}
 QML = """import QtQuick 2.15
 import QtQuick.Window 2.15
 import QtLocation 5.15
@@ -58,11 +60,22 @@ def serve(tile_at):
 
 def style_of(port, zoom, layers):
     """Layers of the style: each of a layer of the tiles, with its type and its paint, the last on top."""
-    return {"version": 8,
-            "sources": {"t": {"type": "vector", "tiles": [f"http://127.0.0.1:{port}/{{z}}/{{x}}/{{y}}"], "minzoom": zoom, "maxzoom": zoom}},
-            "layers": [{"id": "ground", "type": "background", "paint": {"background-color": "#ffffff"}}]
-            + [{"id": str(i), "type": kind, "source": "t", "source-layer": name, "paint": paint, **others}
-               for i, (name, kind, paint, others) in enumerate(layers)]}
+    return {
+        "version": 8,
+        "sources": {
+            "t": {
+                "type": "vector",
+                "tiles": [f"http://127.0.0.1:{port}/{{z}}/{{x}}/{{y}}"],
+                "minzoom": zoom,
+                "maxzoom": zoom,
+            }
+        },
+        "layers": [{"id": "ground", "type": "background", "paint": {"background-color": "#ffffff"}}]
+        + [
+            {"id": str(i), "type": kind, "source": "t", "source-layer": name, "paint": paint, **others}
+            for i, (name, kind, paint, others) in enumerate(layers)
+        ],
+    }
 
 
 def columns_of(image, colour):
@@ -96,14 +109,24 @@ def shot(wait, tile_at, zoom, layers):
     server, side = serve(tile_at), SIZE << zoom
     with tempfile.TemporaryDirectory() as room:
         Path(room, "style.json").write_text(json.dumps(style_of(server.server_port, zoom, layers)))
-        text = QML.replace("ROOM", room).replace("WAIT", str(wait)).replace("SIDE", str(side)).replace("ZOOM", str(zoom))
+        text = (
+            QML.replace("ROOM", room).replace("WAIT", str(wait)).replace("SIDE", str(side)).replace("ZOOM", str(zoom))
+        )
         Path(room, "map.qml").write_text(text)
         env = dict(os.environ, LIBGL_ALWAYS_SOFTWARE="1", XDG_RUNTIME_DIR=room, HOME=room)
         screen = f"-screen 0 {side + 100}x{side + 100}x24 +extension GLX"
-        ran = subprocess.run(["xvfb-run", "-n", str(next(SCREENS)), "-s", screen, "timeout", "200", "qmlscene", f"{room}/map.qml"],
-                             env=env, capture_output=True, text=True)
+        ran = subprocess.run(
+            ["xvfb-run", "-n", str(next(SCREENS)), "-s", screen, "timeout", "200", "qmlscene", f"{room}/map.qml"],
+            env=env,
+            capture_output=True,
+            text=True,
+        )
         server.shutdown()
-        words = [line.split(" for source t: ")[-1].strip(' "') for line in (ran.stdout + ran.stderr).splitlines() if "ERROR" in line]
+        words = [
+            line.split(" for source t: ")[-1].strip(' "')
+            for line in (ran.stdout + ran.stderr).splitlines()
+            if "ERROR" in line
+        ]
         file = Path(room, "out.png")
         return ran.returncode, words, Image.open(file).convert("RGB") if file.exists() else None
 
@@ -111,7 +134,7 @@ def shot(wait, tile_at, zoom, layers):
 def polygons_over(tiles, names, wait=10000):
     """Of each of up to 64 tiles a picture in which a pixel is how many polygons of the layers with these names lie over it, eight
     at most: each halves the light. All are drawn at once, as the world of a zoom."""
-    half = {"fill-color": "#000000", "fill-opacity": .5, "fill-antialias": False}
+    half = {"fill-color": "#000000", "fill-opacity": 0.5, "fill-antialias": False}
     layers = [(name, "fill", half, {"filter": ["==", "$type", "Polygon"]}) for name in names]
     across = 1 << ZOOM
 

@@ -149,7 +149,9 @@ def row(mvt, name, folder):
     kinds = collections.Counter(kind for it in whole for _, _, kind in it.changes)
     why_not = collections.Counter(it.why_not or "still refused" for it in refused if not it.is_accepted)
     by_mapbox, by_maplibre = compared(whole)
-    worse = [it.path for it, *counts in zip(whole, by_mapbox, by_maplibre) if any(before < after for before, after in counts)]
+    worse = [
+        it.path for it, *counts in zip(whole, by_mapbox, by_maplibre) if any(before < after for before, after in counts)
+    ]
     for it, *counts in zip(whole, by_mapbox, by_maplibre):
         if it.path in worse:
             print(f"{it.path}: wrong in Mapbox GL, in MapLibre (before, after): {counts}", file=sys.stderr, flush=True)
@@ -183,7 +185,9 @@ def main():
                 print(told_of_set, flush=True)
     table = "\n".join(rows)
     text = page.read_text(encoding="utf-8")
-    text = re.sub(r"(<!-- mended -->\n).*?(<!-- end of mended -->)", lambda it: f"{it[1]}{table}\n{it[2]}", text, flags=re.S)
+    text = re.sub(
+        r"(<!-- mended -->\n).*?(<!-- end of mended -->)", lambda it: f"{it[1]}{table}\n{it[2]}", text, flags=re.S
+    )
     page.write_text(text, encoding="utf-8")
     return bool(worse)
 

@@ -9,14 +9,26 @@ import tempfile
 from pathlib import Path
 
 os.environ["QT_QPA_PLATFORM"] = "offscreen"
-from qgis.core import (QgsApplication, QgsCoordinateReferenceSystem, QgsMapRendererSequentialJob, QgsMapSettings,
-                       QgsRectangle, QgsSymbol, QgsVectorTileBasicRenderer, QgsVectorTileBasicRendererStyle,
-                       QgsVectorTileLayer, QgsWkbTypes)
+from qgis.core import (
+    QgsApplication,
+    QgsCoordinateReferenceSystem,
+    QgsMapRendererSequentialJob,
+    QgsMapSettings,
+    QgsRectangle,
+    QgsSymbol,
+    QgsVectorTileBasicRenderer,
+    QgsVectorTileBasicRendererStyle,
+    QgsVectorTileLayer,
+    QgsWkbTypes,
+)
 from qgis.PyQt.QtCore import QSize
 from qgis.PyQt.QtGui import QColor
 
-KINDS = {"points": (QgsWkbTypes.PointGeometry, "#0000aa"), "lines": (QgsWkbTypes.LineGeometry, "#aa0000"),
-         "polygons": (QgsWkbTypes.PolygonGeometry, "#00aa00")}
+KINDS = {
+    "points": (QgsWkbTypes.PointGeometry, "#0000aa"),
+    "lines": (QgsWkbTypes.LineGeometry, "#aa0000"),
+    "polygons": (QgsWkbTypes.PolygonGeometry, "#00aa00"),
+}
 SIZE = 512
 SIDE = 20037508.342789244  # of the half world of Web Mercator, in metres
 

@@ -99,7 +99,10 @@ def far_table(rows):
         else:
             others.append(row)
     heads = ["Extent", "Mapbox GL draws", "it leaves out, and `mvt lint` finds"]
-    cells = ([f"{extent:,}", *("; ".join(each[extent]) for each in (drawn, left_out))] for extent in sorted({*drawn, *left_out}))
+    cells = (
+        [f"{extent:,}", *("; ".join(each[extent]) for each in (drawn, left_out))]
+        for extent in sorted({*drawn, *left_out})
+    )
     return table(heads, cells), others
 
 

@@ -28,7 +28,8 @@ static int take_length(uint32_t *len) {
 
 static void pass(const uint8_t *tile, uint32_t len) {
     const uint8_t head[4] = {len >> 24 & 255, len >> 16 & 255, len >> 8 & 255, len & 255};
-    if (fwrite(head, 1, sizeof head, stdout) != sizeof head || fwrite(tile, 1, len, stdout) != len || fflush(stdout) != 0)
+    if (fwrite(head, 1, sizeof head, stdout) != sizeof head || fwrite(tile, 1, len, stdout) != len ||
+        fflush(stdout) != 0)
         die("the output takes no more");
 }
 
@@ -44,14 +45,9 @@ static void tell(uint64_t number, const mvt_fault *fault) {
 static int is_good(const uint8_t *bytes, uint32_t len, uint64_t number) {
     mvt_fault fault;
     switch (mvt_judge(bytes, len, &fault)) {
-    case MVT_OK:
-        return 1;
-    case MVT_REFUSED:
-        tell(number, &fault);
-        return 0;
-    default:
-        die("out of memory");
-        return 0;
+    case MVT_OK: return 1;
+    case MVT_REFUSED: tell(number, &fault); return 0;
+    default: die("out of memory"); return 0;
     }
 }
 

@@ -96,15 +96,14 @@ private:
         const auto parts = tile_.parts(feature);
         switch (feature.kind) {
         case MVT_POINTS:
-            if (const auto points = tile_.points(parts[0]); points.size() == 1) return one("Point", [&] { point(points[0]); });
+            if (const auto points = tile_.points(parts[0]); points.size() == 1)
+                return one("Point", [&] { point(points[0]); });
             return one("MultiPoint", [&] { line(tile_.points(parts[0])); });
         case MVT_LINES:
             if (parts.size() == 1) return one("LineString", [&] { line(tile_.points(parts[0])); });
             return one("MultiLineString", [&] { lines(parts); });
-        case MVT_POLYGONS:
-            return one("MultiPolygon", [&] { polygons(parts); });
-        default:
-            out_ << "null";
+        case MVT_POLYGONS: return one("MultiPolygon", [&] { polygons(parts); });
+        default: out_ << "null";
         }
     }
 

@@ -216,7 +216,8 @@ uint32_t mvt_making_ring(making of, uint32_t exterior, making *again);
 uint32_t mvt_making_points(making of, const mvt_point *points, size_t count, making *again);
 uint32_t mvt_making_integers(making of, const uint32_t *integers, size_t count, making *again);
 uint32_t mvt_making_add(making of, uint32_t kind, uint32_t has_id, uint64_t id, const uint32_t *tags, size_t tag_count,
-                        const mvt_part *parts, size_t part_count, const mvt_point *points, size_t point_count, making *again);
+                        const mvt_part *parts, size_t part_count, const mvt_point *points, size_t point_count,
+                        making *again);
 uint32_t mvt_making_drop(making of, making *again);
 uint32_t mvt_making_rows(making of, making *again, mvt_tile *out);
 uint32_t mvt_making_finish(making of, mvt_bytes *out, mvt_rows_fault *fault);
@@ -316,8 +317,8 @@ mvt_status mvt_builder_add(mvt_builder *of, mvt_kind kind, const uint64_t *id, c
                            const mvt_part *parts, size_t part_count, const mvt_point *points, size_t point_count) {
     builder *b = enter(of);
     return b == NULL ? MVT_NO_MEMORY
-                     : mvt_making_add(b->now, kind, id != NULL, id != NULL ? *id : 0, tags, tag_count, parts, part_count, points,
-                                      point_count, &b->now);
+                     : mvt_making_add(b->now, kind, id != NULL, id != NULL ? *id : 0, tags, tag_count, parts,
+                                      part_count, points, point_count, &b->now);
 }
 
 mvt_status mvt_builder_drop(mvt_builder *of) {

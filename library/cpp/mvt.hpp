@@ -53,13 +53,13 @@ using byte_span = std::span<const std::uint8_t>;
 namespace detail {
 template <class T>
 concept byte_like = std::same_as<T, char> || std::same_as<T, signed char> || std::same_as<T, unsigned char> ||
-                    std::same_as<T, std::byte> || std::same_as<T, char8_t>;
+    std::same_as<T, std::byte> || std::same_as<T, char8_t>;
 
 /// Contiguous bytes. A char array may be a literal; the zero at its end doesn't belong to it.
 template <class R>
-concept bytes_in_a_row = std::ranges::contiguous_range<R> && std::ranges::sized_range<R> &&
-                         byte_like<std::ranges::range_value_t<R>> &&
-                         !(std::is_array_v<R> && std::same_as<std::ranges::range_value_t<R>, char>);
+concept bytes_in_a_row =
+    std::ranges::contiguous_range<R> && std::ranges::sized_range<R> && byte_like<std::ranges::range_value_t<R>> &&
+    !(std::is_array_v<R> && std::same_as<std::ranges::range_value_t<R>, char>);
 } // namespace detail
 
 /// The bytes that a call takes, from anything contiguous: a string, a vector of char or std::byte, a span. It looks into
@@ -69,9 +69,9 @@ public:
     constexpr input() noexcept = default;
     constexpr input(const std::uint8_t *data, std::size_t size) noexcept : bytes_(data, size) {}
     template <class R>
-        requires(!std::same_as<std::remove_cvref_t<R>, input> && detail::bytes_in_a_row<std::remove_reference_t<R>>)
-    input(R &&of MVT_LOOKED_INTO) noexcept
-        : bytes_(reinterpret_cast<const std::uint8_t *>(std::ranges::data(of)), std::ranges::size(of)) {}
+    requires(!std::same_as<std::remove_cvref_t<R>, input> && detail::bytes_in_a_row<std::remove_reference_t<R>>)
+        input(R &&of MVT_LOOKED_INTO)
+    noexcept : bytes_(reinterpret_cast<const std::uint8_t *>(std::ranges::data(of)), std::ranges::size(of)) {}
 
     [[nodiscard]] const std::uint8_t *data() const noexcept { return bytes_.data(); }
     [[nodiscard]] std::size_t size() const noexcept { return bytes_.size(); }
@@ -92,8 +92,9 @@ public:
     constexpr text_input() noexcept = default;
     constexpr text_input(const char *data, std::size_t size) noexcept : view_(data, size) {}
     template <class T>
-        requires(std::convertible_to<const T &, std::string_view> && !std::same_as<T, std::nullptr_t>)
-    text_input(const T &of MVT_LOOKED_INTO) : view_(view_of(of)) {}
+    requires(std::convertible_to<const T &, std::string_view> && !std::same_as<T, std::nullptr_t>)
+        text_input(const T &of MVT_LOOKED_INTO)
+        : view_(view_of(of)) {}
     text_input(std::nullptr_t) = delete;
 
     [[nodiscard]] std::string_view view() const noexcept { return view_; }
@@ -212,14 +213,15 @@ private:
                ": " + std::to_string(fault.cause) + " " + std::string(text_of(fault.name));
     }
 
-    mvt_fault fault_; // its name lasts for good
+    mvt_fault fault_;      // its name lasts for good
     const char *sentence_; // and so does this
     std::shared_ptr<const std::string> layer_name_;
     std::optional<std::uint64_t> feature_id_, start_, end_;
 };
 
 /// Throws the error of a status other than MVT_OK. Pass the bytes that the call took, or the first few of them.
-inline void require_ok(std::uint32_t status, const mvt_fault &fault, input of = {}, std::optional<std::uint64_t> size = {}) {
+inline void require_ok(std::uint32_t status, const mvt_fault &fault, input of = {},
+                       std::optional<std::uint64_t> size = {}) {
     switch (status) {
     case MVT_OK: return;
     case MVT_REFUSED: throw refused(fault, of, size);
@@ -256,11 +258,11 @@ public:
     [[nodiscard]] std::string str() const { return std::string(view()); }
 
     // These are valid as long as the owner lives, so a temporary has none.
-    [[nodiscard]] const std::uint8_t *data() const & noexcept { return held_.data; }
-    [[nodiscard]] const std::uint8_t *begin() const & noexcept { return held_.data; }
-    [[nodiscard]] const std::uint8_t *end() const & noexcept { return held_.data + held_.len; }
-    [[nodiscard]] byte_span span() const & noexcept { return {held_.data, held_.len}; }
-    [[nodiscard]] std::string_view text() const & noexcept { return view(); }
+    [[nodiscard]] const std::uint8_t *data() const &noexcept { return held_.data; }
+    [[nodiscard]] const std::uint8_t *begin() const &noexcept { return held_.data; }
+    [[nodiscard]] const std::uint8_t *end() const &noexcept { return held_.data + held_.len; }
+    [[nodiscard]] byte_span span() const &noexcept { return {held_.data, held_.len}; }
+    [[nodiscard]] std::string_view text() const &noexcept { return view(); }
     [[nodiscard]] friend bool operator==(const bytes &one, const bytes &other) noexcept {
         return one.view() == other.view();
     }
@@ -317,10 +319,10 @@ public:
     tile(const tile &) = delete;
     ~tile() { mvt_tile_free(&rows_); }
 
-    [[nodiscard]] const mvt_tile &rows() const & noexcept { return rows_; }
+    [[nodiscard]] const mvt_tile &rows() const &noexcept { return rows_; }
     const mvt_tile &rows() const && = delete;
 
-    [[nodiscard]] std::span<const mvt_layer> layers() const & noexcept { return {rows_.layers, rows_.layer_count}; }
+    [[nodiscard]] std::span<const mvt_layer> layers() const &noexcept { return {rows_.layers, rows_.layer_count}; }
     std::span<const mvt_layer> layers() const && = delete;
 
     /// The layer of version 2 with this name, or a null pointer.
@@ -421,7 +423,7 @@ public:
     public:
         using value_type = std::pair<std::string_view, value>;
         using difference_type = std::ptrdiff_t;
-        using iterator_category = std::input_iterator_tag; // it makes its pairs, and
+        using iterator_category = std::input_iterator_tag;  // it makes its pairs, and
         using iterator_concept = std::forward_iterator_tag; // can begin anew
 
         iterator() noexcept = default;
@@ -486,7 +488,8 @@ void tile::attributes(const mvt_layer &layer, const mvt_feature &feature, Visit 
     for (const auto &[key, value] : attributes(layer, feature)) visit(key, value);
 }
 
-inline std::optional<value> tile::attribute(const mvt_layer &layer, const mvt_feature &feature, text_input key) const & {
+inline std::optional<value> tile::attribute(const mvt_layer &layer, const mvt_feature &feature,
+                                            text_input key) const & {
     const auto all = attributes(layer, feature);
     const auto at = std::ranges::find_if(all, [&](const auto &it) { return it.first == key.view(); });
     if (at == all.end()) return std::nullopt;
@@ -589,7 +592,7 @@ bytes written(Call call) {
 /// A name that is valid as long as the range.
 template <class T>
 concept lasting_name = std::convertible_to<T, std::string_view> &&
-                       (std::is_lvalue_reference_v<T> || std::is_trivially_copyable_v<std::remove_cvref_t<T>>);
+    (std::is_lvalue_reference_v<T> || std::is_trivially_copyable_v<std::remove_cvref_t<T>>);
 
 } // namespace detail
 
@@ -598,15 +601,14 @@ concept lasting_name = std::convertible_to<T, std::string_view> &&
 
 /// The canonical bytes of the named layers, in the order of the tile. Throws refused, too_large, no_layer and bad_name.
 template <std::ranges::input_range Names>
-    requires detail::lasting_name<std::ranges::range_reference_t<Names>>
+requires detail::lasting_name<std::ranges::range_reference_t<Names>>
 [[nodiscard]] bytes extract(input of, Names &&names) {
     std::vector<mvt_bytes> rows;
     for (auto &&name : names) rows.push_back(text_input(name).bytes());
     mvt_bytes out{};
     mvt_fault fault{};
     std::size_t missing = 0;
-    const std::uint32_t status =
-        mvt_extract(of.data(), of.size(), rows.data(), rows.size(), &out, &fault, &missing);
+    const std::uint32_t status = mvt_extract(of.data(), of.size(), rows.data(), rows.size(), &out, &fault, &missing);
     if (status == MVT_NO_LAYER)
         throw no_layer(std::string{reinterpret_cast<const char *>(rows[missing].data), rows[missing].len});
     require_ok(status, fault, of);
@@ -665,7 +667,7 @@ public:
     /// Whether the bytes are those that `rewrite` makes.
     [[nodiscard]] bool is_canonical() const noexcept { return held_.is_canonical == 1; }
     /// What is worth a look; `mvt_note_text` says a kind in words.
-    [[nodiscard]] std::span<const mvt_note_row> notes() const & noexcept { return {held_.notes, held_.note_count}; }
+    [[nodiscard]] std::span<const mvt_note_row> notes() const &noexcept { return {held_.notes, held_.note_count}; }
     std::span<const mvt_note_row> notes() const && = delete;
 
 private:
@@ -680,8 +682,8 @@ public:
     [[nodiscard]] static findings adopt(const mvt_findings &held) noexcept { return findings(held); }
     [[nodiscard]] std::size_t size() const noexcept { return held_.count; }
     [[nodiscard]] bool empty() const noexcept { return held_.count == 0; }
-    [[nodiscard]] const mvt_finding_row *begin() const & noexcept { return held_.rows; }
-    [[nodiscard]] const mvt_finding_row *end() const & noexcept { return held_.rows + held_.count; }
+    [[nodiscard]] const mvt_finding_row *begin() const &noexcept { return held_.rows; }
+    [[nodiscard]] const mvt_finding_row *end() const &noexcept { return held_.rows + held_.count; }
     const mvt_finding_row *begin() const && = delete;
     const mvt_finding_row *end() const && = delete;
 
@@ -695,8 +697,10 @@ public:
     mended() noexcept = default;
     /// Takes over what mvt_mend returned, and frees it.
     [[nodiscard]] static mended adopt(const mvt_mended &held) noexcept { return mended(held); }
-    [[nodiscard]] std::span<const std::uint8_t> bytes() const & noexcept { return {held_.bytes.data, held_.bytes.len}; }
-    [[nodiscard]] std::span<const mvt_change_row> changes() const & noexcept { return {held_.changes, held_.change_count}; }
+    [[nodiscard]] std::span<const std::uint8_t> bytes() const &noexcept { return {held_.bytes.data, held_.bytes.len}; }
+    [[nodiscard]] std::span<const mvt_change_row> changes() const &noexcept {
+        return {held_.changes, held_.change_count};
+    }
     std::span<const std::uint8_t> bytes() const && = delete;
     std::span<const mvt_change_row> changes() const && = delete;
 
@@ -736,7 +740,7 @@ public:
     surroundings() noexcept = default;
     /// Takes over what mvt_around returned, and frees it.
     [[nodiscard]] static surroundings adopt(const mvt_surroundings &held) noexcept { return surroundings(held); }
-    [[nodiscard]] const mvt_place &place() const & noexcept { return held_.place; }
+    [[nodiscard]] const mvt_place &place() const &noexcept { return held_.place; }
     const mvt_place &place() const && = delete;
     /// The bytes of the layer and of the feature that the fault names, and of the innermost message in which it is.
     [[nodiscard]] std::optional<mvt_bounds> layer() const noexcept { return told(held_.has_layer, held_.layer); }
@@ -748,11 +752,13 @@ public:
     /// The field whose integers the fault's place counts: 2, tags, 4, geometry, or 0, none.
     [[nodiscard]] std::uint32_t list() const noexcept { return held_.list; }
     /// The layer's keys; the feature's integers, with a step for each of the geometry; the message's fields.
-    [[nodiscard]] std::span<const mvt_bounds> keys() const & noexcept { return {held_.keys, held_.key_count}; }
-    [[nodiscard]] std::span<const mvt_integer> tags() const & noexcept { return {held_.tags, held_.tag_count}; }
-    [[nodiscard]] std::span<const mvt_integer> geometry() const & noexcept { return {held_.geometry, held_.geometry_count}; }
-    [[nodiscard]] std::span<const mvt_step> steps() const & noexcept { return {held_.steps, held_.step_count}; }
-    [[nodiscard]] std::span<const mvt_field> fields() const & noexcept { return {held_.fields, held_.field_count}; }
+    [[nodiscard]] std::span<const mvt_bounds> keys() const &noexcept { return {held_.keys, held_.key_count}; }
+    [[nodiscard]] std::span<const mvt_integer> tags() const &noexcept { return {held_.tags, held_.tag_count}; }
+    [[nodiscard]] std::span<const mvt_integer> geometry() const &noexcept {
+        return {held_.geometry, held_.geometry_count};
+    }
+    [[nodiscard]] std::span<const mvt_step> steps() const &noexcept { return {held_.steps, held_.step_count}; }
+    [[nodiscard]] std::span<const mvt_field> fields() const &noexcept { return {held_.fields, held_.field_count}; }
     std::span<const mvt_bounds> keys() const && = delete;
     std::span<const mvt_integer> tags() const && = delete;
     std::span<const mvt_integer> geometry() const && = delete;
@@ -785,16 +791,24 @@ namespace detail {
 /// A value for the builder. A whole number is a uint or, if negative, a sint; the other kinds have types of their own.
 template <class T>
 mvt_any any_of(const T &value) {
-    if constexpr (std::same_as<T, mvt_any>) return value;
-    else if constexpr (std::same_as<T, int_value>) return mvt_any_int(value);
-    else if constexpr (std::same_as<T, sint_value>) return mvt_any_sint(value);
-    else if constexpr (std::same_as<T, bool>) return mvt_any_bool(value);
-    else if constexpr (std::same_as<T, float>) return mvt_any_float(value);
-    else if constexpr (std::same_as<T, double>) return mvt_any_double(value);
-    else if constexpr (std::unsigned_integral<T>) return mvt_any_uint(value);
+    if constexpr (std::same_as<T, mvt_any>)
+        return value;
+    else if constexpr (std::same_as<T, int_value>)
+        return mvt_any_int(value);
+    else if constexpr (std::same_as<T, sint_value>)
+        return mvt_any_sint(value);
+    else if constexpr (std::same_as<T, bool>)
+        return mvt_any_bool(value);
+    else if constexpr (std::same_as<T, float>)
+        return mvt_any_float(value);
+    else if constexpr (std::same_as<T, double>)
+        return mvt_any_double(value);
+    else if constexpr (std::unsigned_integral<T>)
+        return mvt_any_uint(value);
     else if constexpr (std::integral<T>)
         return value < 0 ? mvt_any_sint(value) : mvt_any_uint(static_cast<std::uint64_t>(value));
-    else return mvt_any_text(text_input(value).bytes());
+    else
+        return mvt_any_text(text_input(value).bytes());
 }
 
 inline mvt_any any_of(const value &of) {
@@ -802,9 +816,9 @@ inline mvt_any any_of(const value &of) {
 }
 
 template <class T>
-concept valued = std::same_as<T, mvt_any> || std::same_as<T, value> || std::same_as<T, int_value> ||
-                 std::same_as<T, sint_value> || std::integral<T> || std::same_as<T, float> || std::same_as<T, double> ||
-                 std::convertible_to<const T &, text_input>;
+concept valued =
+    std::same_as<T, mvt_any> || std::same_as<T, value> || std::same_as<T, int_value> || std::same_as<T, sint_value> ||
+    std::integral<T> || std::same_as<T, float> || std::same_as<T, double> || std::convertible_to<const T &, text_input>;
 } // namespace detail
 
 /// Makes a tile step by step: begin a layer, begin a feature, add its tags and its points, and finish.
@@ -881,8 +895,8 @@ public:
     /// these points.
     builder &add(mvt_kind kind, std::optional<std::uint64_t> id, std::span<const std::uint32_t> tags,
                  std::span<const mvt_part> parts, std::span<const mvt_point> points) {
-        return done(mvt_builder_add(&held_, kind, id ? &*id : nullptr, tags.data(), tags.size(), parts.data(), parts.size(),
-                                    points.data(), points.size()));
+        return done(mvt_builder_add(&held_, kind, id ? &*id : nullptr, tags.data(), tags.size(), parts.data(),
+                                    parts.size(), points.data(), points.size()));
     }
     /// Removes the feature that began last, for example if its geometry has become empty.
     builder &drop() { return done(mvt_builder_drop(&held_)); }

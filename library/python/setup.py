@@ -29,7 +29,9 @@ class Build(build_ext):
         words = [*self.compiler.compiler_so, *(f"-I{folder}" for folder in folders), "-E", "-x", "c", "-"]
         asked = f"#if !__has_include(<{header}>)\nmissing\n#endif\n"
         try:
-            return "missing" not in subprocess.run(words, input=asked, capture_output=True, text=True).stdout.splitlines()
+            return (
+                "missing" not in subprocess.run(words, input=asked, capture_output=True, text=True).stdout.splitlines()
+            )
         except OSError:
             return True
 

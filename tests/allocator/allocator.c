@@ -16,7 +16,8 @@ extern long write(int file, const void *bytes, size_t len);
 
 enum { NO_MEMORY = 12 };
 
-static unsigned long asked, asked_before, refused; /* allocations so far, up to the last look, and the one that is refused */
+static unsigned long asked, asked_before,
+    refused; /* allocations so far, up to the last look, and the one that is refused */
 static size_t asked_bytes;
 static long blocks, bytes;
 static int by_calls, was_refused, ready, report = -1;
@@ -123,6 +124,7 @@ __attribute__((destructor)) static void tell(void) {
     unsigned long n = asked;
     start();
     if (report < 0) return;
-    do text[--at] = (char)('0' + n % 10); while (n /= 10);
+    do text[--at] = (char)('0' + n % 10);
+    while (n /= 10);
     write(report, text + at, (size_t)(24 - at));
 }

@@ -30,6 +30,7 @@ extern "C" int LLVMFuzzerInitialize(int *, char ***) {
 }
 
 extern "C" int LLVMFuzzerTestOneInput(const std::uint8_t *data, std::size_t size) {
-    Py_DECREF(require(PyObject_CallFunction(one, "y#", reinterpret_cast<const char *>(data), static_cast<Py_ssize_t>(size))));
+    Py_DECREF(
+        require(PyObject_CallFunction(one, "y#", reinterpret_cast<const char *>(data), static_cast<Py_ssize_t>(size))));
     return 0;
 }

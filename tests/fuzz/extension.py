@@ -138,7 +138,10 @@ class Run:
         if call < 2:
             to.layer(self.text(), *([self.number()] if call else []))
         elif call < 5:
-            to.feature(("points", "lines", "polygons", "unknown", self.text())[self.byte() % 5], None if call < 4 else self.number())
+            to.feature(
+                ("points", "lines", "polygons", "unknown", self.text())[self.byte() % 5],
+                None if call < 4 else self.number(),
+            )
         elif call < 7:
             to.tag(self.text(), self.value())
         elif call < 10:
@@ -167,7 +170,9 @@ class Run:
 def written(run):
     """A tile of objects that call back while they are written."""
     features = [
-        SimpleNamespace(id=run.number(), kind="lines", attributes={run.text(): run.value()}, geometry=[run.points(), run.points()])
+        SimpleNamespace(
+            id=run.number(), kind="lines", attributes={run.text(): run.value()}, geometry=[run.points(), run.points()]
+        )
         for _ in range(run.byte() % 3)
     ]
     layer = SimpleNamespace(name=run.text(), extent=run.number(), features=features)
@@ -185,7 +190,15 @@ def read(data):
     except libmvt.Refused as why:
         fault = (-1 if why.layer is None else why.layer, -1 if why.feature is None else why.feature, why.at, why.cause)
     _mvt.around_rows(data, fault or (0, 0, len(data), 20))
-    for call in (_mvt.mend_rows, _mvt.looked_at, _mvt.lint_rows, _mvt.survey_rows, _mvt.measured, libmvt.rows, libmvt.read):
+    for call in (
+        _mvt.mend_rows,
+        _mvt.looked_at,
+        _mvt.lint_rows,
+        _mvt.survey_rows,
+        _mvt.measured,
+        libmvt.rows,
+        libmvt.read,
+    ):
         try:
             call(data)
         except libmvt.Refused:

@@ -66,7 +66,8 @@ void mended(mvt::byte_span input, bool was_refused) {
     const mvt::mended made = mvt::mend(input);
     const mvt::mended again = mvt::mend(made.bytes());
     require(made.changes().empty() != was_refused, "changes of a tile that keeps every rule, or none of another");
-    require(again.changes().empty() && std::ranges::equal(again.bytes(), made.bytes()), "what is mended is changed again");
+    require(again.changes().empty() && std::ranges::equal(again.bytes(), made.bytes()),
+            "what is mended is changed again");
     require(std::ranges::equal(mvt::rewrite(made.bytes()), made.bytes()), "what is mended isn't canonical");
 }
 

@@ -8,7 +8,8 @@
 #include <unistd.h>
 
 static void within(const mvt_bounds *of, uint64_t start, uint64_t end) {
-    require(start <= of->start && of->start <= of->body && of->body <= of->end && of->end <= end, "the bounds of a field");
+    require(start <= of->start && of->start <= of->body && of->body <= of->end && of->end <= end,
+            "the bounds of a field");
 }
 
 static void integers(const mvt_integer *of, size_t count, const mvt_bounds *feature) {
@@ -37,7 +38,8 @@ static void steps(const mvt_surroundings *around) {
         case MVT_ROLE_CLOSE_PATH: require(step->left == 0, "what follows a ClosePath"); /* fallthrough */
         default: require(step->role == (value & 7), "the number of a command");
         }
-        require(is_drawn == (step->role != MVT_ROLE_NOTHING) && step->x == x && step->y == y, "where the cursor stands");
+        require(is_drawn == (step->role != MVT_ROLE_NOTHING) && step->x == x && step->y == y,
+                "where the cursor stands");
     }
 }
 
@@ -45,7 +47,8 @@ static void fields(const mvt_surroundings *around) {
     uint64_t last = around->message.body;
     for (size_t i = 0; i < around->field_count; ++i) {
         const mvt_field *field = &around->fields[i];
-        require(field->number != 0 && (field->wire_type < 3 || field->wire_type == 5), "the number and wire type of a field");
+        require(field->number != 0 && (field->wire_type < 3 || field->wire_type == 5),
+                "the number and wire type of a field");
         require(field->bounds.start == last, "a field behind the other");
         within(&field->bounds, last, around->message.end);
         last = field->bounds.end;
@@ -59,7 +62,8 @@ static void fault_in(const mvt_surroundings *around, const mvt_fault *fault) {
     if (around->list == 0 || fault->at >= count || !around->has_feature || fault->cause == MVT_CAUSE_ODD_TAGS ||
         fault->cause == MVT_CAUSE_ENDS_EARLY)
         return;
-    require(list[fault->at].start == around->place.start && list[fault->at].end == around->place.end, "the integer of a fault");
+    require(list[fault->at].start == around->place.start && list[fault->at].end == around->place.end,
+            "the integer of a fault");
 }
 
 static void look(const uint8_t *bytes, size_t len, const mvt_fault *fault) {
@@ -67,11 +71,13 @@ static void look(const uint8_t *bytes, size_t len, const mvt_fault *fault) {
     mvt_place place;
     require(mvt_around(bytes, len, fault, &around) == MVT_OK, "a call with memory");
     mvt_locate(bytes, len, fault, &place);
-    require(around.place.start == place.start && around.place.end == place.end && around.place.feature_id == place.feature_id &&
-                around.place.has_layer_name == place.has_layer_name && around.place.layer_name.data == place.layer_name.data,
+    require(around.place.start == place.start && around.place.end == place.end &&
+                around.place.feature_id == place.feature_id && around.place.has_layer_name == place.has_layer_name &&
+                around.place.layer_name.data == place.layer_name.data,
             "the place of mvt_locate");
     require(around.has_layer || (around.layer.end == 0 && !around.has_extent && around.key_count == 0), "no layer");
-    require(around.has_feature || (around.feature.end == 0 && !around.has_kind && around.tag_count + around.geometry_count == 0),
+    require(around.has_feature ||
+                (around.feature.end == 0 && !around.has_kind && around.tag_count + around.geometry_count == 0),
             "no feature");
     require(around.has_layer || !around.has_feature, "a feature without a layer");
     within(&around.layer, 0, len);
@@ -84,7 +90,8 @@ static void look(const uint8_t *bytes, size_t len, const mvt_fault *fault) {
     fields(&around);
     fault_in(&around, fault);
     mvt_surroundings_free(&around);
-    require(around.keys == NULL && around.steps == NULL && around.field_count == 0, "what was given back is still there");
+    require(around.keys == NULL && around.steps == NULL && around.field_count == 0,
+            "what was given back is still there");
     mvt_surroundings_free(&around);
 }
 
@@ -102,14 +109,17 @@ static void each(void) { each_case(look_into); }
 
 /* A polygon whose first ring goes the wrong way round. */
 static void example(void) {
-    static const uint8_t bytes[] = "\x1a\x16\x78\x02\x0a\x01\x61\x12\x0f\x08\x07\x18\x03\x22\x09\x09\x04\x04\x12\x00\x04\x04\x00\x0f";
+    static const uint8_t bytes[] =
+        "\x1a\x16\x78\x02\x0a\x01\x61\x12\x0f\x08\x07\x18\x03\x22\x09\x09\x04\x04\x12\x00\x04\x04\x00\x0f";
     const mvt_fault fault = {0, 0, 8, MVT_CAUSE_FIRST_RING, {NULL, 0}};
     mvt_surroundings around;
     require(mvt_around(bytes, 24, &fault, &around) == MVT_OK && around.list == 4 && around.kind == 3, "an example");
     require(around.geometry_count == 9 && around.geometry[8].start == 23 && around.steps[8].role == MVT_ROLE_CLOSE_PATH,
             "the integers of the example");
-    require(around.steps[5].x == 2 && around.steps[5].y == 4 && around.steps[7].x == 4 && around.steps[7].y == 4, "its points");
-    require(around.field_count == 3 && around.fields[2].number == 4 && around.fields[2].bounds.body == 15, "its fields");
+    require(around.steps[5].x == 2 && around.steps[5].y == 4 && around.steps[7].x == 4 && around.steps[7].y == 4,
+            "its points");
+    require(around.field_count == 3 && around.fields[2].number == 4 && around.fields[2].bounds.body == 15,
+            "its fields");
     mvt_surroundings_free(&around);
 }
 
@@ -124,7 +134,8 @@ static size_t peak(void) {
  * bytes, as mvt.h says. A field of that many bytes has a tag and a length of five bytes. */
 static void bounded(uint8_t field, uint32_t cause) {
     enum { BYTES = 1 << 22 };
-    const uint8_t heads[][6] = {{0x1a, 0x8c, 0x80, 0x80, 0x82, 0}, {0x12, 0x86, 0x80, 0x80, 0x82, 0}, {field, 0x80, 0x80, 0x80, 0x82, 0}};
+    const uint8_t heads[][6] = {
+        {0x1a, 0x8c, 0x80, 0x80, 0x82, 0}, {0x12, 0x86, 0x80, 0x80, 0x82, 0}, {field, 0x80, 0x80, 0x80, 0x82, 0}};
     uint8_t *bytes = calloc(BYTES + sizeof heads, 1);
     memcpy(bytes, heads, sizeof heads);
     const int is_in_feature = cause != MVT_CAUSE_TRUNCATED;

@@ -22,15 +22,22 @@ static void build_point(void) {
     require(memcmp(&fault, &untold, sizeof fault) == 0, "no fault is told");
     require(out.len == sizeof known && memcmp(out.data, known, sizeof known) == 0, "the bytes of a point");
     mvt_bytes_free(&out);
-    require(mvt_builder_finish(&builder, &out, &fault) == MVT_OK && out.len == 0, "a builder that begins anew is empty");
+    require(mvt_builder_finish(&builder, &out, &fault) == MVT_OK && out.len == 0,
+            "a builder that begins anew is empty");
 }
 
 /* The case `kinds` is what each language's builder makes of values of all kinds. */
 static void build_kinds_of(const told_case *of) {
     static const char *const keys[] = {"s", "f", "d", "i", "p", "u", "n", "z", "b"};
-    const mvt_any values[] = {mvt_any_text(mvt_text("x")), mvt_any_float(2.5f), mvt_any_double(3.5),
-                              mvt_any_int(-5),             mvt_any_int(5),      mvt_any_uint(5),
-                              mvt_any_sint(-5),            mvt_any_sint(5),     mvt_any_bool(1)};
+    const mvt_any values[] = {mvt_any_text(mvt_text("x")),
+                              mvt_any_float(2.5f),
+                              mvt_any_double(3.5),
+                              mvt_any_int(-5),
+                              mvt_any_int(5),
+                              mvt_any_uint(5),
+                              mvt_any_sint(-5),
+                              mvt_any_sint(5),
+                              mvt_any_bool(1)};
     if (strcmp(of->name, "kinds") != 0) return;
     mvt_builder builder = {0};
     mvt_bytes out = {0};
@@ -51,8 +58,14 @@ static void build_all(void) {
     static const mvt_point square[] = {{0, 0}, {8, 0}, {8, 8}, {0, 8}}, hole[] = {{2, 2}, {2, 4}, {4, 4}, {4, 2}};
     static const uint32_t integers[] = {9, 2, 2};
     const uint8_t foreign[] = {0x78, 0x01, 0x0A, 0x01, 0x62};
-    const mvt_any values[] = {mvt_any_text(mvt_text("x")), mvt_any_float(2.5f), mvt_any_double(-0.0),  mvt_any_double(0.0),
-                              mvt_any_int(-1),             mvt_any_uint(1),     mvt_any_sint(-1),      mvt_any_bool(7)};
+    const mvt_any values[] = {mvt_any_text(mvt_text("x")),
+                              mvt_any_float(2.5f),
+                              mvt_any_double(-0.0),
+                              mvt_any_double(0.0),
+                              mvt_any_int(-1),
+                              mvt_any_uint(1),
+                              mvt_any_sint(-1),
+                              mvt_any_bool(7)};
     mvt_builder builder = {0};
     mvt_bytes out = {0};
     mvt_rows_fault wrong;
@@ -71,7 +84,8 @@ static void build_all(void) {
     mvt_builder_feature(&builder, MVT_LINES);
     require(mvt_builder_key(&builder, mvt_text("k5"), &key) == MVT_OK && key == 5, "a key has its first index");
     require(mvt_builder_key(&builder, mvt_text("k5"), &again) == MVT_OK && again == key, "a key has one index");
-    require(mvt_builder_value(&builder, mvt_any_uint(1), &value) == MVT_OK && value == 5, "a value has its first index");
+    require(mvt_builder_value(&builder, mvt_any_uint(1), &value) == MVT_OK && value == 5,
+            "a value has its first index");
     mvt_builder_tag_at(&builder, key, value);
     mvt_builder_line(&builder);
     mvt_builder_point(&builder, 0, 0);
@@ -88,7 +102,8 @@ static void build_all(void) {
 
     mvt_tile t;
     mvt_fault fault;
-    require(mvt_read(out.data, out.len, UINT64_MAX, &t, &fault) == MVT_OK && t.layer_count == 3, "what is built is a tile");
+    require(mvt_read(out.data, out.len, UINT64_MAX, &t, &fault) == MVT_OK && t.layer_count == 3,
+            "what is built is a tile");
     require(is_text(&t, t.layers[0].name, "town") && t.layers[0].extent == 512, "a layer's head");
     require(t.layers[1].version == 1 && t.layers[1].bytes.len == sizeof foreign, "a layer of another version");
     require(is_text(&t, t.layers[2].name, "empty") && t.layers[2].features.len == 0, "a layer without features");
@@ -155,7 +170,8 @@ static void build_whole(void) {
     for (int i = 0; i < 7; ++i) {
         mvt_builder builder = {0};
         if (i != 5) mvt_builder_layer(&builder, mvt_text("a"), 4096);
-        const uint32_t status = mvt_builder_add(&builder, MVT_LINES, NULL, NULL, 0, i < 5 ? &beyond[i] : &line, 1, points, 8);
+        const uint32_t status =
+            mvt_builder_add(&builder, MVT_LINES, NULL, NULL, 0, i < 5 ? &beyond[i] : &line, 1, points, 8);
         require(status == (i == 6 ? MVT_OK : MVT_OUT_OF_TURN), "a feature that isn't due");
         if (i == 6) require(mvt_builder_id(&builder, 7) == MVT_OUT_OF_TURN, "a feature that has ended");
         mvt_builder_free(&builder);
@@ -175,7 +191,8 @@ static void build_odd_rings(void) {
         mvt_builder_layer(&builder, mvt_text("a"), 4096);
         require(mvt_builder_add(&builder, MVT_LINES, NULL, NULL, 0, &line, 1, points, 3) == MVT_OK, "a line");
         require(mvt_builder_add(&builder, MVT_POINTS, NULL, NULL, 0, &dot, 1, points, 3) == MVT_OK, "a point");
-        require(mvt_builder_rows(&builder, &rows) == MVT_OK && rows.parts[0].exterior == 0 && rows.parts[1].exterior == 0,
+        require(mvt_builder_rows(&builder, &rows) == MVT_OK && rows.parts[0].exterior == 0 &&
+                    rows.parts[1].exterior == 0,
                 "no line or point is a ring");
         mvt_builder_layer(&builder, mvt_text("b"), 4096);
         const uint32_t status = mvt_builder_add(&builder, MVT_POLYGONS, NULL, NULL, 0, &ring, 1, points, 3);
@@ -252,7 +269,8 @@ static void build_out_of_turn(void) {
         require(status == MVT_OUT_OF_TURN && index == 77, "a call out of turn");
         require(mvt_builder_layer(&builder, mvt_text("b"), 4096) == MVT_OUT_OF_TURN, "an answer that stays");
         require(mvt_builder_finish(&builder, &out, &fault) == MVT_OUT_OF_TURN && out.data == NULL, "nothing is built");
-        require(mvt_builder_finish(&builder, &out, &fault) == MVT_OK && builder.held == NULL, "a builder that begins anew");
+        require(mvt_builder_finish(&builder, &out, &fault) == MVT_OK && builder.held == NULL,
+                "a builder that begins anew");
     }
 }
 
@@ -267,14 +285,17 @@ static void build_no_tile(void) {
     mvt_builder_feature(&builder, MVT_POINTS);
     require(mvt_builder_finish(&builder, &out, &fault) == MVT_NO_TILE && out.data == NULL, "points without a point");
     require(builder.held == NULL && fault.layer == 1 && fault.has_feature == 1 && fault.feature == 1 &&
-                fault.cause == MVT_ROWS_GEOMETRY, "where, and why");
+                fault.cause == MVT_ROWS_GEOMETRY,
+            "where, and why");
     mvt_builder_layer(&builder, mvt_text("a"), 4096);
     mvt_builder_layer(&builder, mvt_text("a"), 4096);
     require(mvt_builder_finish(&builder, &out, &fault) == MVT_NO_TILE && fault.layer == 1 && fault.has_feature == 0 &&
-                fault.feature == 0 && fault.cause == MVT_ROWS_REPEATED_NAME, "a layer's fault");
+                fault.feature == 0 && fault.cause == MVT_ROWS_REPEATED_NAME,
+            "a layer's fault");
     mvt_builder_layer(&builder, mvt_text("a"), 4096);
     mvt_builder_layer(&builder, mvt_text("a"), 4096);
-    require(mvt_builder_finish(&builder, &out, NULL) == MVT_NO_TILE && out.data == NULL, "a fault that nobody asks for");
+    require(mvt_builder_finish(&builder, &out, NULL) == MVT_NO_TILE && out.data == NULL,
+            "a fault that nobody asks for");
 }
 
 /* What mvt_write looks at: an empty span as any other, and keys and values that no tag names. */
@@ -286,20 +307,28 @@ static void write_what_nothing_names(void) {
         const mvt_point point = {25, 17};
         mvt_feature feature = {.kind = MVT_POINTS, .parts = {0, 1}};
         mvt_layer layer = {.version = 2, .extent = 4096, .name = {0, 1}, .features = {0, 1}};
-        mvt_tile tile = {.layers = &layer, .layer_count = 1, .features = &feature, .feature_count = 1, .parts = &part,
-                         .part_count = 1, .points = &point, .point_count = 1, .texts = (const uint8_t *)"ak", .text_len = 2};
+        mvt_tile tile = {.layers = &layer,
+                         .layer_count = 1,
+                         .features = &feature,
+                         .feature_count = 1,
+                         .parts = &part,
+                         .part_count = 1,
+                         .points = &point,
+                         .point_count = 1,
+                         .texts = (const uint8_t *)"ak",
+                         .text_len = 2};
         mvt_bytes out = {0};
         tile.keys = &key, tile.key_count = 1, tile.values = &good, tile.value_count = 1;
         layer.keys = layer.values = (mvt_span){0, 1};
         uint32_t wanted = MVT_OK;
         switch (i) {
-        case 1: layer.keys = (mvt_span){1, 0}; break;                        /* at the end of the list */
-        case 2: layer.keys = (mvt_span){2, 0}, wanted = MVT_NO_TILE; break;  /* behind it */
+        case 1: layer.keys = (mvt_span){1, 0}; break;                       /* at the end of the list */
+        case 2: layer.keys = (mvt_span){2, 0}, wanted = MVT_NO_TILE; break; /* behind it */
         case 3: feature.tags = (mvt_span){1, 0}, wanted = MVT_NO_TILE; break;
-        case 4: feature.integers = (mvt_span){9, 9}; break;                  /* which points haven't */
-        case 5: tile.values = &bad, wanted = MVT_NO_TILE; break;             /* a value that no tag names */
+        case 4: feature.integers = (mvt_span){9, 9}; break;                         /* which points haven't */
+        case 5: tile.values = &bad, wanted = MVT_NO_TILE; break;                    /* a value that no tag names */
         case 6: tile.texts = (const uint8_t *)"a\xff", wanted = MVT_NO_TILE; break; /* and such a key */
-        case 7: tile.values = &bad, layer.values.len = 0; break;             /* a value of no layer */
+        case 7: tile.values = &bad, layer.values.len = 0; break;                    /* a value of no layer */
         default: break;
         }
         require(mvt_write(&tile, &out, NULL) == wanted, "what is looked at, and what isn't");
@@ -319,8 +348,14 @@ static void write_overlaps(void) {
     for (int i = 0; i < FEATURES; ++i) features[i].integers = (mvt_span){0, ZEROS};
     for (uint64_t count = 2; count <= FEATURES; count = count == 2 ? FEATURES - 1 : count + 1) {
         const mvt_layer layer = {.version = 2, .extent = 4096, .name = {0, 1}, .features = {0, count}};
-        const mvt_tile tile = {.layers = &layer, .layer_count = 1, .features = features, .feature_count = count,
-                               .integers = integers, .integer_count = ZEROS, .texts = (const uint8_t *)"a", .text_len = 1};
+        const mvt_tile tile = {.layers = &layer,
+                               .layer_count = 1,
+                               .features = features,
+                               .feature_count = count,
+                               .integers = integers,
+                               .integer_count = ZEROS,
+                               .texts = (const uint8_t *)"a",
+                               .text_len = 1};
         mvt_rows_fault fault = {.cause = 99};
         mvt_bytes out = {0};
         const uint32_t wanted = count == 2 ? MVT_OK : count < FEATURES ? MVT_TOO_LARGE : MVT_NO_MEMORY;
@@ -343,13 +378,26 @@ static void judge_rows(void) {
         mvt_part parts[] = {{.points = {0, 1}}, {.exterior = 1, .points = {1, 3}}};
         mvt_feature features[] = {{.kind = MVT_POINTS, .parts = {0, 1}, .tags = {0, 2}},
                                   {.kind = MVT_POLYGONS, .parts = {1, 1}}};
-        mvt_layer layers[] = {{.version = 2, .extent = 4096, .name = {0, 1}, .features = {0, 2}, .keys = {0, 1}, .values = {0, 1}},
-                              {.version = 2, .name = {1, 1}},
-                              {.version = 1, .bytes = {2, 2}}};
+        mvt_layer layers[] = {
+            {.version = 2, .extent = 4096, .name = {0, 1}, .features = {0, 2}, .keys = {0, 1}, .values = {0, 1}},
+            {.version = 2, .name = {1, 1}},
+            {.version = 1, .bytes = {2, 2}}};
         uint8_t texts[] = {'a', 'k', 0x78, 0x01};
-        const mvt_tile tile = {.layers = layers, .layer_count = 3, .features = features, .feature_count = 2, .keys = &key,
-                               .key_count = 1, .values = &value, .value_count = 1, .tags = tags, .tag_count = 4,
-                               .parts = parts, .part_count = 2, .points = points, .point_count = 4, .texts = texts,
+        const mvt_tile tile = {.layers = layers,
+                               .layer_count = 3,
+                               .features = features,
+                               .feature_count = 2,
+                               .keys = &key,
+                               .key_count = 1,
+                               .values = &value,
+                               .value_count = 1,
+                               .tags = tags,
+                               .tag_count = 4,
+                               .parts = parts,
+                               .part_count = 2,
+                               .points = points,
+                               .point_count = 4,
+                               .texts = texts,
                                .text_len = 4};
         uint64_t layer = 0;
         int64_t feature = -1;
@@ -386,8 +434,9 @@ static void judge_rows(void) {
         require(fault.cause == (cause == 0 ? 99 : cause), "the cause of rows that are no tile");
         require(cause == 0 || (fault.layer == layer && fault.has_feature == (feature >= 0)), "the layer of such rows");
         require(cause == 0 || fault.feature == (feature < 0 ? 0 : (uint64_t)feature), "the feature of such rows");
-        require(fault.rule == (cause == MVT_ROWS_DRAWING ? MVT_CAUSE_COUNT : 0) && fault.has_point == 0 && fault.part == 0 &&
-                    fault.point == 0, "the rule of such rows");
+        require(fault.rule == (cause == MVT_ROWS_DRAWING ? MVT_CAUSE_COUNT : 0) && fault.has_point == 0 &&
+                    fault.part == 0 && fault.point == 0,
+                "the rule of such rows");
         require(strlen(mvt_rows_cause_text(cause)) > 15, "the text of such a cause");
         mvt_bytes_free(&out);
     }
@@ -399,7 +448,7 @@ static const struct {
     uint32_t rule;
     uint64_t part;
     int64_t point;
-    size_t count;       /* of parts */
+    size_t count; /* of parts */
     mvt_part parts[3];
     mvt_point points[8];
 } UNDRAWN[] = {
@@ -412,9 +461,19 @@ static const struct {
     {MVT_POLYGONS, MVT_CAUSE_ENDS_EARLY, 0, -1, 0, {{0, {0, 0}}}, {{0, 0}}},
     {MVT_POLYGONS, MVT_CAUSE_COUNT, 0, -1, 1, {{1, {0, 2}}}, {{0, 0}, {1, 1}}},
     {MVT_POLYGONS, MVT_CAUSE_FIRST_RING, 0, -1, 1, {{1, {0, 3}}}, {{0, 0}, {1, 3}, {3, 1}}},
-    {MVT_POLYGONS, MVT_CAUSE_EXTERIOR_RING, 2, -1, 3, {{1, {0, 4}}, {1, {0, 4}}, {1, {4, 3}}},
+    {MVT_POLYGONS,
+     MVT_CAUSE_EXTERIOR_RING,
+     2,
+     -1,
+     3,
+     {{1, {0, 4}}, {1, {0, 4}}, {1, {4, 3}}},
      {{0, 0}, {9, 0}, {9, 9}, {0, 9}, {1, 1}, {2, 2}, {3, 3}}},
-    {MVT_POLYGONS, MVT_CAUSE_INTERIOR_RING, 1, -1, 2, {{1, {0, 4}}, {0, {4, 4}}},
+    {MVT_POLYGONS,
+     MVT_CAUSE_INTERIOR_RING,
+     1,
+     -1,
+     2,
+     {{1, {0, 4}}, {0, {4, 4}}},
      {{0, 0}, {9, 0}, {9, 9}, {0, 9}, {1, 1}, {5, 1}, {5, 5}, {1, 5}}},
 };
 
@@ -424,11 +483,21 @@ static void judge_rules(void) {
         const size_t count = UNDRAWN[of].count;
         const mvt_feature features[] = {{.kind = MVT_UNKNOWN}, {.kind = UNDRAWN[of].kind, .parts = {0, count}}};
         const mvt_layer layer = {.version = 2, .extent = 4096, .features = {0, 2}};
-        const mvt_tile tile = {.layers = &layer, .layer_count = 1, .features = features, .feature_count = 2, .parts = parts,
-                               .part_count = count, .points = UNDRAWN[of].points, .point_count = 8};
+        const mvt_tile tile = {.layers = &layer,
+                               .layer_count = 1,
+                               .features = features,
+                               .feature_count = 2,
+                               .parts = parts,
+                               .part_count = count,
+                               .points = UNDRAWN[of].points,
+                               .point_count = 8};
         const int64_t point = UNDRAWN[of].point;
-        const mvt_rows_fault wanted = {.feature = 1, .has_feature = 1, .cause = MVT_ROWS_DRAWING, .rule = UNDRAWN[of].rule,
-                                       .has_point = point >= 0, .part = UNDRAWN[of].part,
+        const mvt_rows_fault wanted = {.feature = 1,
+                                       .has_feature = 1,
+                                       .cause = MVT_ROWS_DRAWING,
+                                       .rule = UNDRAWN[of].rule,
+                                       .has_point = point >= 0,
+                                       .part = UNDRAWN[of].part,
                                        .point = point < 0 ? 0 : (uint64_t)point};
         mvt_rows_fault judged, written, built;
         mvt_bytes out = {0};
@@ -451,17 +520,28 @@ static void judge_in_order(void) {
     const mvt_point point = {INT32_MIN, 0};
     const mvt_part part = {.points = {0, 1}};
     const mvt_feature feature = {.kind = MVT_POINTS, .parts = {0, 1}};
-    mvt_layer layers[] = {{.version = 2, .name = {0, 1}, .features = {0, 1}}, {.version = 2, .name = {0, 1}, .keys = {0, 1}}};
-    mvt_tile tile = {.layers = layers, .layer_count = 2, .features = &feature, .feature_count = 1, .parts = &part,
-                     .part_count = 1, .points = &point, .point_count = 1, .texts = (const uint8_t *)"ab", .text_len = 2};
+    mvt_layer layers[] = {{.version = 2, .name = {0, 1}, .features = {0, 1}},
+                          {.version = 2, .name = {0, 1}, .keys = {0, 1}}};
+    mvt_tile tile = {.layers = layers,
+                     .layer_count = 2,
+                     .features = &feature,
+                     .feature_count = 1,
+                     .parts = &part,
+                     .part_count = 1,
+                     .points = &point,
+                     .point_count = 1,
+                     .texts = (const uint8_t *)"ab",
+                     .text_len = 2};
     const uint32_t causes[] = {MVT_ROWS_DRAWING, MVT_ROWS_REPEATED_NAME, MVT_ROWS_KEYS_SPAN};
     for (uint64_t step = 0; step < 3; ++step) {
         mvt_rows_fault fault;
         mvt_bytes out = {0};
         require(mvt_write(&tile, &out, &fault) == MVT_NO_TILE && out.data == NULL, "rows that are broken twice");
         require(fault.cause == causes[step] && fault.layer == (step > 0), "what is wrong first");
-        if (step == 0) layers[0].features.len = 0;
-        else layers[1].name.start = 1;
+        if (step == 0)
+            layers[0].features.len = 0;
+        else
+            layers[1].name.start = 1;
     }
 }
 
@@ -469,8 +549,8 @@ static void judge_in_order(void) {
 static void explain(void) {
     const uint8_t bytes[] = {0x1A, 0x05, 0x78, 0x01, 0x0A, 0x01, 0x62,                         /* of version 1 */
                              0x1A, 0x19, 0x78, 0x02, 0x12, 0x05, 0x18, 0x00, 0x22, 0x01, 0x09, /* the first feature */
-                             0x12, 0x0B, 0x08, 0xAC, 0x02, 0x18, 0x02, 0x22, 0x04, 0x09, 0x00, 0x00, 0x0A,
-                             0x0A, 0x01, 0x61};
+                             0x12, 0x0B, 0x08, 0xAC, 0x02, 0x18, 0x02, 0x22, 0x04, 0x09, 0x00,
+                             0x00, 0x0A, 0x0A, 0x01, 0x61};
     mvt_fault fault;
     mvt_place place;
     require(mvt_judge(bytes, sizeof bytes, &fault) == MVT_REFUSED && fault.layer == 1 && fault.feature == 1, "a fault");
@@ -493,12 +573,14 @@ static void explain(void) {
     fault.layer = INT64_MAX, fault.feature = INT64_MIN, fault.at = UINT64_MAX;
     for (fault.cause = 0; fault.cause < 30; ++fault.cause) {
         mvt_locate(bytes, sizeof bytes, &fault, &place);
-        require(place.start <= place.end && place.end <= sizeof bytes && !place.has_layer_name, "no layer has such an index");
+        require(place.start <= place.end && place.end <= sizeof bytes && !place.has_layer_name,
+                "no layer has such an index");
     }
     fault.cause = 4;
     require(strstr(mvt_explain((const uint8_t *)"\x1f\x8b", 2, &fault), "gzip") != NULL, "a head of gzip");
     const char *zlib[] = {"\x78\x01", "\x78\x5e", "\x78\x9c", "\x78\xda"};
-    for (int i = 0; i < 4; ++i) require(strstr(mvt_explain((const uint8_t *)zlib[i], 2, &fault), "zlib") != NULL, "a head of zlib");
+    for (int i = 0; i < 4; ++i)
+        require(strstr(mvt_explain((const uint8_t *)zlib[i], 2, &fault), "zlib") != NULL, "a head of zlib");
     require(strstr(mvt_explain((const uint8_t *)"\x78\x02", 2, &fault), "compressed") == NULL, "no head of zlib");
     require(strstr(mvt_explain((const uint8_t *)"<html>", 6, &fault), "HTML") != NULL, "a head of HTML");
     for (uint32_t status = 0; status < 9; ++status) require(strlen(mvt_status_text(status)) > 3, "a text for a status");

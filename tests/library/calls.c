@@ -2,9 +2,7 @@
  * a few numbers are changed at random. */
 #include "tests.h"
 
-static int lies(mvt_span span, size_t count) {
-    return span.start <= count && span.len <= count - span.start;
-}
+static int lies(mvt_span span, size_t count) { return span.start <= count && span.len <= count - span.start; }
 
 /* Each span of each row lies in its list. Answers a sum over all that is there, so that each byte is read. */
 static uint64_t walk(const mvt_tile *t) {
@@ -40,7 +38,8 @@ static uint64_t walk(const mvt_tile *t) {
 }
 
 static int same_bytes(const mvt_tile *a, mvt_span in_a, const mvt_tile *b, mvt_span in_b) {
-    return in_a.len == in_b.len && (in_a.len == 0 || memcmp(a->texts + in_a.start, b->texts + in_b.start, in_a.len) == 0);
+    return in_a.len == in_b.len &&
+           (in_a.len == 0 || memcmp(a->texts + in_a.start, b->texts + in_b.start, in_a.len) == 0);
 }
 
 static int same_values(const mvt_tile *a, const mvt_value *x, const mvt_tile *b, const mvt_value *y) {
@@ -65,19 +64,20 @@ static int same_parts(const mvt_tile *a, const mvt_feature *f, const mvt_tile *b
         const mvt_part *p = a->parts + f->parts.start + i, *q = b->parts + g->parts.start + i;
         if (f->kind == MVT_POLYGONS && p->exterior != q->exterior) return 0;
         if (p->points.len != q->points.len) return 0;
-        if (memcmp(a->points + p->points.start, b->points + q->points.start, p->points.len * sizeof *a->points) != 0) return 0;
+        if (memcmp(a->points + p->points.start, b->points + q->points.start, p->points.len * sizeof *a->points) != 0)
+            return 0;
     }
     return 1;
 }
 
-static int same_features(const mvt_tile *a, const mvt_layer *k, const mvt_feature *f, const mvt_tile *b, const mvt_layer *l,
-                         const mvt_feature *g) {
+static int same_features(const mvt_tile *a, const mvt_layer *k, const mvt_feature *f, const mvt_tile *b,
+                         const mvt_layer *l, const mvt_feature *g) {
     if (f->has_id != g->has_id || (f->has_id && f->id != g->id) || f->kind != g->kind) return 0;
     if (!same_tags(a, k, f, b, l, g)) return 0;
     if (f->kind != MVT_UNKNOWN) return same_parts(a, f, b, g);
     return f->integers.len == g->integers.len &&
-           (f->integers.len == 0 ||
-            memcmp(a->integers + f->integers.start, b->integers + g->integers.start, f->integers.len * sizeof *a->integers) == 0);
+           (f->integers.len == 0 || memcmp(a->integers + f->integers.start, b->integers + g->integers.start,
+                                           f->integers.len * sizeof *a->integers) == 0);
 }
 
 /* Both rows, which were accepted, are one tile. */
@@ -90,9 +90,11 @@ static int same_tiles(const mvt_tile *a, const mvt_tile *b) {
             if (!same_bytes(a, k->bytes, b, l->bytes)) return 0;
             continue;
         }
-        if (k->extent != l->extent || !same_bytes(a, k->name, b, l->name) || k->features.len != l->features.len) return 0;
+        if (k->extent != l->extent || !same_bytes(a, k->name, b, l->name) || k->features.len != l->features.len)
+            return 0;
         for (size_t j = 0; j < k->features.len; ++j) {
-            if (!same_features(a, k, a->features + k->features.start + j, b, l, b->features + l->features.start + j)) return 0;
+            if (!same_features(a, k, a->features + k->features.start + j, b, l, b->features + l->features.start + j))
+                return 0;
         }
     }
     return 1;
@@ -129,7 +131,8 @@ static uint32_t write_rows(const mvt_tile *rows) {
     require(status == MVT_OK || status == MVT_NO_TILE, "the status of mvt_write");
     require(status == MVT_OK || (out.data == NULL && out.len == 0), "an output that isn't due is touched");
     if (status != MVT_OK) return status;
-    require(mvt_read(out.data, out.len, UINT64_MAX, &read, &fault) == MVT_OK && same_tiles(rows, &read), "rows that read back");
+    require(mvt_read(out.data, out.len, UINT64_MAX, &read, &fault) == MVT_OK && same_tiles(rows, &read),
+            "rows that read back");
     require(mvt_rewrite(out.data, out.len, &again, &fault) == MVT_OK, "what was written is a tile");
     require(again.len == out.len && (out.len == 0 || memcmp(again.data, out.data, out.len) == 0), "canonical bytes");
     mvt_bytes_free(&out);
@@ -198,19 +201,22 @@ static void decode(const uint8_t *bytes, size_t len, uint32_t wanted, const mvt_
         mvt_tile_free(&read);
     } else {
         require(fault.layer == first->layer && fault.feature == first->feature && fault.at == first->at &&
-                    fault.cause == first->cause, "the fault of a decoder");
+                    fault.cause == first->cause,
+                "the fault of a decoder");
     }
     require(mvt_decoder_feed(&decoder, bytes, len, &fault) == MVT_NO_DECODER, "a decoder that is finished");
     require(mvt_decoder_finish(&decoder, &read, &fault) == MVT_NO_DECODER, "a decoder that is finished");
-    require(mvt_decoder_new(&decoder, UINT64_MAX) == MVT_OK && mvt_decoder_feed(&decoder, bytes, len / 2, &fault) <= 1, "half a tile");
+    require(mvt_decoder_new(&decoder, UINT64_MAX) == MVT_OK && mvt_decoder_feed(&decoder, bytes, len / 2, &fault) <= 1,
+            "half a tile");
     mvt_decoder_free(&decoder);
     mvt_decoder_free(&decoder);
 }
 
 static uint64_t size_of(const mvt_tile *t) {
-    return t->layer_count * sizeof *t->layers + t->feature_count * sizeof *t->features + t->key_count * sizeof *t->keys +
-           t->value_count * sizeof *t->values + t->tag_count * sizeof *t->tags + t->part_count * sizeof *t->parts +
-           t->point_count * sizeof *t->points + t->integer_count * sizeof *t->integers + t->text_len;
+    return t->layer_count * sizeof *t->layers + t->feature_count * sizeof *t->features +
+           t->key_count * sizeof *t->keys + t->value_count * sizeof *t->values + t->tag_count * sizeof *t->tags +
+           t->part_count * sizeof *t->parts + t->point_count * sizeof *t->points +
+           t->integer_count * sizeof *t->integers + t->text_len;
 }
 
 /* Rows of at most so many bytes are read exactly where they have no more. */
@@ -223,9 +229,11 @@ static void read_within(const uint8_t *bytes, size_t len, const mvt_tile *rows) 
     mvt_tile_free(&read);
     require(mvt_decoder_new(&decoder, size) == MVT_OK, "a decoder of rows of just the most");
     require(mvt_decoder_feed(&decoder, bytes, len, &fault) == MVT_OK, "just the most from a decoder");
-    require(mvt_decoder_finish(&decoder, &read, &fault) == MVT_OK && same_tiles(rows, &read), "just the most in the end");
+    require(mvt_decoder_finish(&decoder, &read, &fault) == MVT_OK && same_tiles(rows, &read),
+            "just the most in the end");
     mvt_tile_free(&read);
-    require(mvt_read_layer(bytes, len, mvt_text("no layer's name"), &read, &fault) == MVT_NO_LAYER, "a layer of no name");
+    require(mvt_read_layer(bytes, len, mvt_text("no layer's name"), &read, &fault) == MVT_NO_LAYER,
+            "a layer of no name");
     if (size == 0) return;
     require(mvt_read(bytes, len, size - 1, &read, &fault) == MVT_NO_MEMORY && read.layers == NULL, "beyond the most");
     require(mvt_decoder_new(&decoder, size - 1) == MVT_OK, "a decoder of fewer rows");
@@ -262,8 +270,8 @@ static void refuse(const told_case *of) {
     require(mvt_judge(of->tile, of->len, &fault) == MVT_REFUSED, "a tile that is refused");
     if (fault.layer >= 0) sprintf(index[0], "%lld", (long long)fault.layer);
     if (fault.feature >= 0) sprintf(index[1], "%lld", (long long)fault.feature);
-    int made = sprintf(line, "layer %s feature %s at %llu: %u %.*s", index[0], index[1], (unsigned long long)fault.at, fault.cause,
-                       (int)fault.name.len, (const char *)fault.name.data);
+    int made = sprintf(line, "layer %s feature %s at %llu: %u %.*s", index[0], index[1], (unsigned long long)fault.at,
+                       fault.cause, (int)fault.name.len, (const char *)fault.name.data);
     const char *wanted = case_says(of, "fault", &len);
     require_bytes(line, (size_t)made, wanted, len, "the line of a fault");
     mvt_locate(of->tile, of->len, &fault, &place);
@@ -322,8 +330,10 @@ static void call(const told_case *of) {
     make(of, mvt_svg, "draw", 1);
     make(of, mvt_report, "check", 0);
     make(of, mvt_lint, "lint", 0);
-    if (judged == MVT_REFUSED) refuse(of);
-    else extract_each(of);
+    if (judged == MVT_REFUSED)
+        refuse(of);
+    else
+        extract_each(of);
     extract_wrong(bytes, of->len, judged);
     const uint32_t read = mvt_read(bytes, of->len, UINT64_MAX, &rows, &fault);
     require(read == judged, "a tile is read where it is accepted");
@@ -349,8 +359,16 @@ static void write_point(void) {
     const mvt_feature feature = {.kind = MVT_POINTS, .parts = {0, 1}};
     const mvt_part part = {.points = {0, 1}};
     mvt_point point = {25, 17};
-    mvt_tile tile = {.layers = &layer, .layer_count = 1, .features = &feature, .feature_count = 1, .parts = &part,
-                     .part_count = 1, .points = &point, .point_count = 1, .texts = (const uint8_t *)"a", .text_len = 1};
+    mvt_tile tile = {.layers = &layer,
+                     .layer_count = 1,
+                     .features = &feature,
+                     .feature_count = 1,
+                     .parts = &part,
+                     .part_count = 1,
+                     .points = &point,
+                     .point_count = 1,
+                     .texts = (const uint8_t *)"a",
+                     .text_len = 1};
     mvt_bytes out = {0};
     require(mvt_write(&tile, &out, NULL) == MVT_OK && out.len == sizeof known, "a point made by hand");
     require(memcmp(out.data, known, sizeof known) == 0, "the bytes of a point");

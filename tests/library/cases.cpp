@@ -34,7 +34,8 @@ std::string text_of(mvt::byte_span bytes) { return {bytes.begin(), bytes.end()};
 
 mvt::tile in_pieces(mvt::byte_span tile, std::size_t size) {
     mvt::decoder decoder;
-    for (std::size_t at = 0; at < tile.size(); at += size) decoder.feed(tile.subspan(at, std::min(size, tile.size() - at)));
+    for (std::size_t at = 0; at < tile.size(); at += size)
+        decoder.feed(tile.subspan(at, std::min(size, tile.size() - at)));
     return decoder.finish();
 }
 
@@ -59,9 +60,11 @@ void extracted(const told_case &of, mvt::byte_span tile) {
 void accepted(const told_case &of, mvt::byte_span tile) {
     const std::string check = said(of, "check"), lint = said(of, "lint"), canonical = bytes_said(of, "canonical");
     const mvt::summary survey = mvt::survey(tile);
-    const std::string counts = "ok layers " + std::to_string(survey.layers()) + " features " + std::to_string(survey.features());
+    const std::string counts =
+        "ok layers " + std::to_string(survey.layers()) + " features " + std::to_string(survey.features());
     same(mvt::report(tile).str(), check, "check");
-    same(counts + " canonical " + (survey.is_canonical() ? "yes" : "no"), check.substr(0, check.find('\n')), "what is counted");
+    same(counts + " canonical " + (survey.is_canonical() ? "yes" : "no"), check.substr(0, check.find('\n')),
+         "what is counted");
     require(static_cast<std::ptrdiff_t>(survey.notes().size()) == lines_of(check) - 1, "the notes");
     same(mvt::lint(tile).str(), lint, "lint");
     require(static_cast<std::ptrdiff_t>(mvt::lint_rows(tile).size()) == lines_of(lint), "the findings");
@@ -95,22 +98,36 @@ void refused(const told_case &of, mvt::byte_span tile, const mvt::refused &why) 
     same(line + "\n", said(of, "fault"), "the line of a fault");
     same(sentence + "\n", said(of, "sentence"), "the sentence of a fault");
     same(why.what(), line + ": " + sentence, "the text of a fault");
-    same(std::to_string(why.start().value()) + " " + std::to_string(why.end().value()) + "\n", said(of, "place"), "the place");
+    same(std::to_string(why.start().value()) + " " + std::to_string(why.end().value()) + "\n", said(of, "place"),
+         "the place");
     const bool looks = sentence.starts_with("This isn't a tile, but looks like ");
     require(mvt::looks_like(tile).has_value() == looks, "what the bytes look like");
-    refuses(of, [&] { static_cast<void>(mvt::read(tile)); }, "read");
-    refuses(of, [&] { static_cast<void>(mvt::rewrite(tile)); }, "rewrite");
-    refuses(of, [&] { static_cast<void>(mvt::extract(tile, {"a"})); }, "extract");
-    refuses(of, [&] { static_cast<void>(mvt::json(tile)); }, "json");
-    refuses(of, [&] { static_cast<void>(mvt::svg(tile)); }, "svg");
-    refuses(of, [&] { static_cast<void>(mvt::report(tile)); }, "report");
-    refuses(of, [&] { static_cast<void>(mvt::survey(tile)); }, "survey");
-    refuses(of, [&] { static_cast<void>(mvt::lint(tile)); }, "lint");
-    refuses(of, [&] { static_cast<void>(mvt::lint_rows(tile)); }, "lint_rows");
-    refuses(of, [&] { static_cast<void>(in_pieces(tile, size_of_pieces(tile))); }, "pieces");
-    same(refuses(of, [&] { static_cast<void>(in_pieces(tile, tile.size())); }, "one piece"), sentence, "a decoder's sentence");
+    refuses(
+        of, [&] { static_cast<void>(mvt::read(tile)); }, "read");
+    refuses(
+        of, [&] { static_cast<void>(mvt::rewrite(tile)); }, "rewrite");
+    refuses(
+        of, [&] { static_cast<void>(mvt::extract(tile, {"a"})); }, "extract");
+    refuses(
+        of, [&] { static_cast<void>(mvt::json(tile)); }, "json");
+    refuses(
+        of, [&] { static_cast<void>(mvt::svg(tile)); }, "svg");
+    refuses(
+        of, [&] { static_cast<void>(mvt::report(tile)); }, "report");
+    refuses(
+        of, [&] { static_cast<void>(mvt::survey(tile)); }, "survey");
+    refuses(
+        of, [&] { static_cast<void>(mvt::lint(tile)); }, "lint");
+    refuses(
+        of, [&] { static_cast<void>(mvt::lint_rows(tile)); }, "lint_rows");
+    refuses(
+        of, [&] { static_cast<void>(in_pieces(tile, size_of_pieces(tile))); }, "pieces");
+    same(refuses(
+             of, [&] { static_cast<void>(in_pieces(tile, tile.size())); }, "one piece"),
+         sentence, "a decoder's sentence");
     if (!case_has(&of, "mended")) {
-        refuses(of, [&] { static_cast<void>(mvt::mend(tile)); }, "mend");
+        refuses(
+            of, [&] { static_cast<void>(mvt::mend(tile)); }, "mend");
         return;
     }
     const mvt::mended mended = mvt::mend(tile);

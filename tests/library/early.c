@@ -24,7 +24,10 @@ static size_t tile_of(uint8_t *tile, int is_behind, const char *integers, uint8_
     memcpy(feature, "\x18\x01", 2);
     uint8_t *end = put_bytes(feature + 2, 0x22, (const uint8_t *)integers, strlen(integers));
     end = put_bytes(end, 0x12, list, tags);
-    memcpy(layer, "\x78\x02\x0a\x01" "a", 5);
+    memcpy(layer,
+           "\x78\x02\x0a\x01"
+           "a",
+           5);
     uint8_t *last = layer + 5;
     if (!is_behind) memcpy(last, entries, sizeof entries), last += sizeof entries;
     last = put_bytes(last, 0x12, feature, (size_t)(end - feature));
@@ -52,7 +55,10 @@ static size_t tile_of_key(uint8_t *tile, size_t bytes) {
     uint8_t *key = malloc(bytes), *layer = malloc(bytes + 64);
     if (key == NULL || layer == NULL) exit(2);
     memset(key, 'k', bytes);
-    memcpy(layer, "\x78\x02\x0a\x01" "a", 5);
+    memcpy(layer,
+           "\x78\x02\x0a\x01"
+           "a",
+           5);
     uint8_t *last = put_bytes(layer + 5, 0x12, feature, sizeof feature);
     last = put_bytes(last, 0x1a, key, bytes);
     memcpy(last, "\x22\x02\x28\x01\x28\x80\x20", 7);

@@ -13,7 +13,9 @@ def framed(tiles):
 
 good = [(TILES / name).read_bytes() for name in ("gdal.mvt", "postgis.mvt", "point.mvt")]
 broken = (TILES / "broken" / "20-ZeroSegment.mvt").read_bytes()
-run = subprocess.run([sys.argv[1]], input=framed([good[0], broken, b"", good[1], b"\x1b", good[2]]), capture_output=True)
+run = subprocess.run(
+    [sys.argv[1]], input=framed([good[0], broken, b"", good[1], b"\x1b", good[2]]), capture_output=True
+)
 assert run.returncode == 0, run
 assert run.stdout == framed([good[0], b"", b"", good[1], b"", good[2]])
 told = run.stderr.decode().splitlines()

@@ -20,7 +20,9 @@ def made(rows, *words):
     writer = csv.DictWriter(table, ["lon", "lat", "id", "name", "population", "height"])
     writer.writeheader()
     writer.writerows(rows)
-    run = subprocess.run([sys.executable, EXAMPLE, *words], input=table.getvalue().encode(), capture_output=True, check=True)
+    run = subprocess.run(
+        [sys.executable, EXAMPLE, *words], input=table.getvalue().encode(), capture_output=True, check=True
+    )
     return run.stdout
 
 
@@ -38,7 +40,9 @@ told = subprocess.run([os.environ["MVT"], "check"], input=tile, capture_output=T
 assert told.splitlines()[0] == b"ok layers 1 features %d canonical yes" % len(places), told
 [layer] = libmvt.read(tile).layers
 assert (layer.name, layer.extent) == ("places", 4096)
-by_name = {feature.attributes["name"]: feature for feature in libmvt.read((TILES / "gdal.mvt").read_bytes()).layers[0].features}
+by_name = {
+    feature.attributes["name"]: feature for feature in libmvt.read((TILES / "gdal.mvt").read_bytes()).layers[0].features
+}
 for feature, row in zip(layer.features, rows):
     assert feature.id == row["id"]
     assert feature.attributes == {key: row[key] for key in ("name", "population", "height")}, feature

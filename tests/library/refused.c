@@ -34,13 +34,17 @@ typedef struct {
 } task;
 
 static uint32_t rewrite(const uint8_t *b, size_t n, output *o, mvt_fault *f) { return mvt_rewrite(b, n, &o->bytes, f); }
-static uint32_t mend(const uint8_t *b, size_t n, output *o, mvt_fault *f) { return mvt_mend(b, n, &o->mended, f, NULL); }
+static uint32_t mend(const uint8_t *b, size_t n, output *o, mvt_fault *f) {
+    return mvt_mend(b, n, &o->mended, f, NULL);
+}
 static uint32_t json(const uint8_t *b, size_t n, output *o, mvt_fault *f) { return mvt_json(b, n, &o->bytes, f); }
 static uint32_t svg(const uint8_t *b, size_t n, output *o, mvt_fault *f) { return mvt_svg(b, n, &o->bytes, f); }
 static uint32_t lint(const uint8_t *b, size_t n, output *o, mvt_fault *f) { return mvt_lint(b, n, &o->bytes, f); }
 static uint32_t report(const uint8_t *b, size_t n, output *o, mvt_fault *f) { return mvt_report(b, n, &o->bytes, f); }
 static uint32_t survey(const uint8_t *b, size_t n, output *o, mvt_fault *f) { return mvt_survey(b, n, &o->summary, f); }
-static uint32_t findings(const uint8_t *b, size_t n, output *o, mvt_fault *f) { return mvt_lint_rows(b, n, &o->findings, f); }
+static uint32_t findings(const uint8_t *b, size_t n, output *o, mvt_fault *f) {
+    return mvt_lint_rows(b, n, &o->findings, f);
+}
 static uint32_t judge(const uint8_t *b, size_t n, output *o, mvt_fault *f) {
     const uint32_t status = mvt_judge(b, n, f);
     if (status == MVT_OK) memset(o, 0, sizeof *o);
@@ -55,7 +59,9 @@ static uint32_t around(const uint8_t *b, size_t n, output *o, mvt_fault *f) {
     begin(refused);
     return mvt_around(b, n, &fault, &o->surroundings);
 }
-static uint32_t rows(const uint8_t *b, size_t n, output *o, mvt_fault *f) { return mvt_read(b, n, UINT64_MAX, &o->tile, f); }
+static uint32_t rows(const uint8_t *b, size_t n, output *o, mvt_fault *f) {
+    return mvt_read(b, n, UINT64_MAX, &o->tile, f);
+}
 static uint32_t layer(const uint8_t *b, size_t n, output *o, mvt_fault *f) {
     return mvt_read_layer(b, n, mvt_text("water"), &o->tile, f);
 }
@@ -103,14 +109,21 @@ static void free_mended(output *o) { mvt_mended_free(&o->mended); }
 static void free_surroundings(output *o) { mvt_surroundings_free(&o->surroundings); }
 
 static const task TASKS[] = {
-    {"mvt_rewrite", rewrite, free_bytes}, {"mvt_json", json, free_bytes}, {"mvt_svg", svg, free_bytes},
-    {"mvt_extract", extract, free_bytes}, {"mvt_read", rows, free_tile},
+    {"mvt_rewrite", rewrite, free_bytes},
+    {"mvt_json", json, free_bytes},
+    {"mvt_svg", svg, free_bytes},
+    {"mvt_extract", extract, free_bytes},
+    {"mvt_read", rows, free_tile},
     {"mvt_read_layer", layer, free_tile},
-    {"mvt_report", report, free_bytes},   {"mvt_lint", lint, free_bytes},
-    {"mvt_survey", survey, free_summary}, {"mvt_lint_rows", findings, free_findings},
-    {"mvt_around", around, free_surroundings}, {"mvt_mend", mend, free_mended},
+    {"mvt_report", report, free_bytes},
+    {"mvt_lint", lint, free_bytes},
+    {"mvt_survey", survey, free_summary},
+    {"mvt_lint_rows", findings, free_findings},
+    {"mvt_around", around, free_surroundings},
+    {"mvt_mend", mend, free_mended},
     {"mvt_judge", judge, free_bytes},
-    {"mvt_write", written, free_bytes},      {"mvt_builder_finish", built, free_bytes},
+    {"mvt_write", written, free_bytes},
+    {"mvt_builder_finish", built, free_bytes},
 };
 
 /* One call with the allocation `number` refused. Answers whether the call went so far. */
@@ -130,7 +143,8 @@ static int refuse(const task *of, const uint8_t *bytes, size_t len, unsigned lon
     } else {
         require_of(memcmp(&out, &untouched, sizeof out) == 0, "an output is touched", of->name);
     }
-    if (status != MVT_REFUSED) require_of(memcmp(&fault, &told_nothing, sizeof fault) == 0, "a fault is told", of->name);
+    if (status != MVT_REFUSED)
+        require_of(memcmp(&fault, &told_nothing, sizeof fault) == 0, "a fault is told", of->name);
     require_of(allocator_blocks() == 0, "a block is left", of->name);
     return came;
 }

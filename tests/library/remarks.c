@@ -10,12 +10,12 @@ typedef struct {
     size_t len, room;
 } lines;
 
-#define ADD(to, ...)                                                                       \
-    do {                                                                                   \
-        const int more = snprintf(NULL, 0, __VA_ARGS__);                                   \
-        while ((to)->room - (to)->len <= (size_t)more)                                     \
-            (to)->text = realloc((to)->text, (to)->room = 2 * (to)->room + 256);           \
-        (to)->len += (size_t)snprintf((to)->text + (to)->len, (to)->room - (to)->len, __VA_ARGS__); \
+#define ADD(to, ...)                                                                                                   \
+    do {                                                                                                               \
+        const int more = snprintf(NULL, 0, __VA_ARGS__);                                                               \
+        while ((to)->room - (to)->len <= (size_t)more)                                                                 \
+            (to)->text = realloc((to)->text, (to)->room = 2 * (to)->room + 256);                                       \
+        (to)->len += (size_t)snprintf((to)->text + (to)->len, (to)->room - (to)->len, __VA_ARGS__);                    \
     } while (0)
 
 static void add_note(lines *to, const mvt_note_row *row) {
@@ -37,7 +37,8 @@ static void add_note(lines *to, const mvt_note_row *row) {
 }
 
 static void add_finding(lines *to, const mvt_finding_row *row) {
-    static const char *const names[] = {"", "ZeroExtent", "NoGeometry", "UnknownGeometry", "FarPoint", "LargeId", "LargeNumber"};
+    static const char *const names[] = {"",         "ZeroExtent", "NoGeometry", "UnknownGeometry",
+                                        "FarPoint", "LargeId",    "LargeNumber"};
     require(row->kind >= MVT_FINDING_ZERO_EXTENT && row->kind <= MVT_FINDING_LARGE_NUMBER, "the kind of a finding");
     require(row->has_feature == (row->kind != MVT_FINDING_ZERO_EXTENT), "whether a finding is of a feature");
     ADD(to, "lint %s layer %" PRIu64, names[row->kind], row->layer);
@@ -70,7 +71,8 @@ static void accepted(const told_case *of) {
     compare(&found, of, "lint");
     mvt_summary_free(&summary);
     mvt_findings_free(&findings);
-    require(summary.notes == NULL && summary.layers == 0 && findings.rows == NULL, "what was given back is still there");
+    require(summary.notes == NULL && summary.layers == 0 && findings.rows == NULL,
+            "what was given back is still there");
     mvt_summary_free(&summary);
     mvt_findings_free(&findings);
 }
@@ -83,22 +85,27 @@ static void refused(const uint8_t *bytes, size_t len, const mvt_fault *first) {
     memset(&no_findings, 0x5a, sizeof findings), findings = no_findings;
     for (int i = 0; i < 2; ++i) {
         memset(&fault, 0, sizeof fault);
-        require((i == 0 ? mvt_survey(bytes, len, &summary, &fault) : mvt_lint_rows(bytes, len, &findings, &fault)) == MVT_REFUSED,
+        require((i == 0 ? mvt_survey(bytes, len, &summary, &fault) : mvt_lint_rows(bytes, len, &findings, &fault)) ==
+                    MVT_REFUSED,
                 "a tile that is refused");
         require(fault.layer == first->layer && fault.feature == first->feature && fault.at == first->at &&
-                    fault.cause == first->cause, "its fault");
+                    fault.cause == first->cause,
+                "its fault");
     }
     require(memcmp(&summary, &no_summary, sizeof summary) == 0 && memcmp(&findings, &no_findings, sizeof findings) == 0,
             "an output that isn't due is touched");
     const int kind = mvt_looks_like(bytes, len);
     require(kind >= 0 && kind <= MVT_LOOKALIKE_MBTILES, "what the bytes look like");
-    require((strncmp(mvt_explain(bytes, len, first), "This isn't a tile, but looks like ", 34) == 0) == (kind != 0), "its sentence");
+    require((strncmp(mvt_explain(bytes, len, first), "This isn't a tile, but looks like ", 34) == 0) == (kind != 0),
+            "its sentence");
 }
 
 static void look(const told_case *of) {
     mvt_fault fault;
-    if (mvt_judge(of->tile, of->len, &fault) == MVT_OK) accepted(of);
-    else refused(of->tile, of->len, &fault);
+    if (mvt_judge(of->tile, of->len, &fault) == MVT_OK)
+        accepted(of);
+    else
+        refused(of->tile, of->len, &fault);
 }
 
 static void each(void) { each_case(look); }
@@ -116,7 +123,8 @@ static void texts(void) {
     const mvt_fault fault = {-1, -1, 0, MVT_CAUSE_ZERO_SEGMENT, {NULL, 0}};
     require(strcmp(mvt_cause_text(MVT_CAUSE_ZERO_SEGMENT), mvt_explain(NULL, 0, &fault)) == 0, "the text of a cause");
     require(strcmp(mvt_note_text(MVT_NOTE_FLAT_RING), "A ring's area is 0.") == 0, "the text of a note");
-    require(strncmp(mvt_finding_text(MVT_FINDING_LARGE_ID), "An id is beyond 2^53 - 1. The feature is drawn", 46) == 0, "and of a finding");
+    require(strncmp(mvt_finding_text(MVT_FINDING_LARGE_ID), "An id is beyond 2^53 - 1. The feature is drawn", 46) == 0,
+            "and of a finding");
     require(MVT_LIMIT == 1 << 26, "the limit");
     char version[32];
     snprintf(version, sizeof version, "%d.%d.%d", MVT_VERSION_MAJOR, MVT_VERSION_MINOR, MVT_VERSION_PATCH);
@@ -142,17 +150,25 @@ static void looks(void) {
                 {MVT_LOOKALIKE_JPEG, 4, "\xff\xd8\xff\xe0"},
                 {MVT_LOOKALIKE_GIF, 6, "GIF87a"},
                 {MVT_LOOKALIKE_WEBP, 16, "RIFF\0\0\0\0WEBPVP8 "},
-                {MVT_LOOKALIKE_FLAT_GEOBUF, 8, "fgb\x03" "fgb\x01"},
-                {MVT_LOOKALIKE_XZ, 6, "\xfd" "7zXZ"},
+                {MVT_LOOKALIKE_FLAT_GEOBUF, 8,
+                 "fgb\x03"
+                 "fgb\x01"},
+                {MVT_LOOKALIKE_XZ, 6,
+                 "\xfd"
+                 "7zXZ"},
                 {MVT_LOOKALIKE_BZIP2, 4, "BZh9"},
                 {MVT_LOOKALIKE_ZIP, 4, "PK\x03\x04"},
                 {MVT_LOOKALIKE_PDF, 8, "%PDF-1.7"},
                 {MVT_LOOKALIKE_OSM_PBF, 15, "\0\0\0\x0d\n\tOSMHeader"},
                 {MVT_LOOKALIKE_XML, 16, "\xef\xbb\xbf<?xml version"},
                 {MVT_LOOKALIKE_PLAIN_TEXT, 18, "404 page not found"},
-                {MVT_LOOKALIKE_BROTLI, 20, "\x1b\x14\0\0\x9c" "0123456789ABCDE"},
+                {MVT_LOOKALIKE_BROTLI, 20,
+                 "\x1b\x14\0\0\x9c"
+                 "0123456789ABCDE"},
                 {MVT_LOOKALIKE_MBTILES, 27, "SQLite format 3\0tile_column"},
-                {0, 7, "\x1a\x03\x0a\x09" "ax\x02"},
+                {0, 7,
+                 "\x1a\x03\x0a\x09"
+                 "ax\x02"},
                 {0, 3, "abc"}};
     for (size_t i = 0; i < sizeof rows / sizeof *rows; ++i)
         require(mvt_looks_like((const uint8_t *)rows[i].bytes, rows[i].len) == rows[i].kind, rows[i].bytes);

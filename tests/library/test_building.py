@@ -52,8 +52,17 @@ class Building(unittest.TestCase):
         """Each language's builder makes the same bytes of values of all kinds, and what was read is what is built."""
         lines = (Path(__file__).resolve().parents[2] / "fixtures/tiles/kinds.hex").read_text().splitlines()
         wanted = bytes.fromhex("".join(line.partition("#")[0] for line in lines))
-        values = {"s": "x", "f": libmvt.Float(2.5), "d": 3.5, "i": libmvt.Int(-5), "p": libmvt.Int(5), "u": 5, "n": -5,
-                  "z": libmvt.Sint(5), "b": True}
+        values = {
+            "s": "x",
+            "f": libmvt.Float(2.5),
+            "d": 3.5,
+            "i": libmvt.Int(-5),
+            "p": libmvt.Int(5),
+            "u": 5,
+            "n": -5,
+            "z": libmvt.Sint(5),
+            "b": True,
+        }
         for attributes in (values, libmvt.read(wanted)["a"].features[0].attributes):
             builder = libmvt.Builder().layer("a").feature("points").point(25, 17)
             for key, value in attributes.items():
@@ -72,7 +81,20 @@ class Building(unittest.TestCase):
     def test_keys_and_values_stand_once(self):
         builder = libmvt.Builder().layer("a")
         self.assertEqual([builder.key(key) for key in ("name", "height", "name")], [0, 1, 0])
-        values = ["x", 1, libmvt.Int(1), 1.0, libmvt.Float(1.0), True, libmvt.Sint(1), 0.0, -0.0, "x", True, libmvt.Uint(1)]
+        values = [
+            "x",
+            1,
+            libmvt.Int(1),
+            1.0,
+            libmvt.Float(1.0),
+            True,
+            libmvt.Sint(1),
+            0.0,
+            -0.0,
+            "x",
+            True,
+            libmvt.Uint(1),
+        ]
         self.assertEqual([builder.value(value) for value in values], [0, 1, 2, 3, 4, 5, 6, 7, 8, 0, 5, 1])
         builder.feature("points").tag("name", "y").tag_at(1, 0).point(1, 1)
         self.assertEqual(builder.layer("b").key("height"), 0)

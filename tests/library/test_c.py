@@ -69,7 +69,9 @@ def test_handles(handle):
 def with_allocator(name, *words):
     """A program that refuses and counts its allocations."""
     folder = made("allocator", lambda path: (path.mkdir(), run(TOP / "tests/allocator/build", path)))
-    return compiled(source(name), f"-I{TOP}/tests/allocator", f"-L{folder}", "-lallocator", f"-Wl,-rpath,{folder}", *words)
+    return compiled(
+        source(name), f"-I{TOP}/tests/allocator", f"-L{folder}", "-lallocator", f"-Wl,-rpath,{folder}", *words
+    )
 
 
 @pytest.mark.parametrize("test", names("refused"))
@@ -89,7 +91,9 @@ def test_exports():
     [series] = re.findall(r'^#define MVT_VERSION "(.*)\..*"$', header, re.M)
     told = run("nm", "-D", "--defined-only", "--with-symbol-versions", BUILT / "libmvt.so").stdout
     exported = {words[2] for words in map(str.split, told.splitlines()) if words[1] == "T"}
-    assert exported == {f"{name}@@LIBMVT_{series}" for name in re.findall(r"^[a-z].*\b(mvt_[a-z0-9_]+)\(", header, re.M)}
+    assert exported == {
+        f"{name}@@LIBMVT_{series}" for name in re.findall(r"^[a-z].*\b(mvt_[a-z0-9_]+)\(", header, re.M)
+    }
 
 
 def dynamic():
@@ -116,7 +120,9 @@ def test_the_filter():
 
 
 @needs("gcc")
-@pytest.mark.parametrize("path", [*(TOP / "library/c").glob("*.c"), *(TOP / "library/python/src").glob("*.c")], ids=lambda it: it.name)
+@pytest.mark.parametrize(
+    "path", [*(TOP / "library/c").glob("*.c"), *(TOP / "library/python/src").glob("*.c")], ids=lambda it: it.name
+)
 def test_analyzer(path):
     """gcc's analyzer finds no way to a null pointer, a lost block or a use behind free."""
     run("gcc", *C[1:], "-fanalyzer", f"-I{sysconfig.get_path('include')}", "-c", "-o", "/dev/null", path)

@@ -162,7 +162,10 @@ class Written(unittest.TestCase):
     """Objects whose lists are emptied while they are written."""
 
     def tile(self, **changed):
-        features = [libmvt.Feature(number, {"a": 1, "b": 2}, "lines", [[(0, 0), (1, 1)], [(2, 2), (3, 3)]]) for number in range(4)]
+        features = [
+            libmvt.Feature(number, {"a": 1, "b": 2}, "lines", [[(0, 0), (1, 1)], [(2, 2), (3, 3)]])
+            for number in range(4)
+        ]
         for name, value in changed.items():
             setattr(features[0], name, value)
         return libmvt.Tile([libmvt.Layer("a", 4096, features), libmvt.Layer("b", 4096, [])])

@@ -11,7 +11,17 @@ from places import holders_line
 from room import others
 from shown import shown
 
-CALLS = (libmvt.judge, libmvt.lint, libmvt.read, libmvt.rows, libmvt.report, libmvt.rewrite, libmvt.survey, libmvt.to_json, libmvt.to_svg)
+CALLS = (
+    libmvt.judge,
+    libmvt.lint,
+    libmvt.read,
+    libmvt.rows,
+    libmvt.report,
+    libmvt.rewrite,
+    libmvt.survey,
+    libmvt.to_json,
+    libmvt.to_svg,
+)
 EXAMPLES = cases.examples()
 
 
@@ -57,14 +67,19 @@ def refused(case):
     assert str(fault) == f"{fault.line}: {fault.explanation}" + (": mvt mend mends this" if "mended" in said else "")
     assert fault.explanation.endswith(fault.sentence)
     if fault.layer is not None:
-        place = SimpleNamespace(name=None if fault.layer_name is None else fault.layer_name.encode(), id=fault.feature_id)
+        place = SimpleNamespace(
+            name=None if fault.layer_name is None else fault.layer_name.encode(), id=fault.feature_id
+        )
         assert said["explain"].startswith(holders_line(fault, place) + "\n")
     assert (f"{fault.start} {fault.end}\n", f"{fault.sentence}\n") == (said["place"], said["sentence"])
     assert refused_by(lambda whole: decoded(whole, 1 if len(whole) < 1000 else 1 << 16), tile).line == fault.line
     assert refused_by(lambda whole: decoded(whole, len(whole)), tile).sentence == fault.sentence
     if "mended" in said:
         mended = libmvt.mend(tile)
-        assert (mended.bytes, "".join(f"{change}\n" for change in mended.changes)) == (case.bytes_of("mended"), said["change"])
+        assert (mended.bytes, "".join(f"{change}\n" for change in mended.changes)) == (
+            case.bytes_of("mended"),
+            said["change"],
+        )
     else:
         assert refused_by(libmvt.mend, tile).args == fault.args
 

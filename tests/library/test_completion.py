@@ -55,13 +55,20 @@ def test_line(words, wanted):
 def test_all_options(command):
     """Each shell is offered each option that the command's help names."""
     told = run(sys.executable, "-m", command.replace("mvt-", "mvt_tools."), "--help", env=TOOLS).stdout
-    options = {word for word in told.replace("[", " ").replace(",", " ").replace("]", " ").split() if word.startswith("--")}
+    options = {
+        word for word in told.replace("[", " ").replace(",", " ").replace("]", " ").split() if word.startswith("--")
+    }
     zsh, fish = (completions().joinpath(name).read_text() for name in (f"_{command}", f"{command}.fish"))
-    missing = [it for it in options if it not in complete(command, it).split() or it not in zsh or f"-l {it[2:]}" not in fish]
+    missing = [
+        it for it in options if it not in complete(command, it).split() or it not in zsh or f"-l {it[2:]}" not in fish
+    ]
     assert options and not missing
 
 
-@pytest.mark.parametrize("shell, pattern", [pytest.param("zsh", "_*", marks=needs("zsh")), pytest.param("fish", "*.fish", marks=needs("fish"))])
+@pytest.mark.parametrize(
+    "shell, pattern",
+    [pytest.param("zsh", "_*", marks=needs("zsh")), pytest.param("fish", "*.fish", marks=needs("fish"))],
+)
 def test_other_shells(shell, pattern):
     files = list(completions().glob(pattern))
     assert len(files) >= 5

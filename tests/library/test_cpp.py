@@ -60,7 +60,9 @@ def test_four_threads_under_helgrind():
     run(*words, "--tool=helgrind", compiled(WRAPPED), "share", input=tile("gdal"), text=False)
 
 
-@pytest.mark.parametrize("compiler, case", [(it, case) for it in ("g++", "clang++") for case in range(15 if it == "g++" else 17)])
+@pytest.mark.parametrize(
+    "compiler, case", [(it, case) for it in ("g++", "clang++") for case in range(15 if it == "g++" else 17)]
+)
 def test_misuse(compiler, case):
     """Without a case it compiles; each case doesn't."""
     if not shutil.which(compiler):

@@ -51,9 +51,17 @@ class TestColumns:
     def test_where_some_features_have_none(self):
         found = columns({"text": "x", "truth": True, "whole": 7, "large": 1 << 60, "real": 0.5}, {})
         assert {key: column.dtype for key, column in found.items()} == {
-            "text": object, "truth": object, "whole": float, "large": object, "real": float,
+            "text": object,
+            "truth": object,
+            "whole": float,
+            "large": object,
+            "real": float,
         }
-        assert [found[key].tolist() for key in ("text", "truth", "large")] == [["x", None], [True, None], [1 << 60, None]]
+        assert [found[key].tolist() for key in ("text", "truth", "large")] == [
+            ["x", None],
+            [True, None],
+            [1 << 60, None],
+        ]
         assert all(found[key][0] == value and math.isnan(found[key][1]) for key, value in (("whole", 7), ("real", 0.5)))
 
     def test_of_some_keys(self):
@@ -86,8 +94,10 @@ class TestFrames:
     def test_shapes(self):
         lines = [[(0, 0), (5, 5)], [(1, 1), (2, 2), (3, 1)]]
         shapes = frame_of(
-            libmvt.Feature(1, {}, "polygons", [[RING, HOLE], [RING]]), libmvt.Feature(None, {}, "lines", lines),
-            libmvt.Feature(3, {}, "points", [(7, -8), (9, 9)]), libmvt.Feature(4, {}, "unknown", [9, 2, 2]),
+            libmvt.Feature(1, {}, "polygons", [[RING, HOLE], [RING]]),
+            libmvt.Feature(None, {}, "lines", lines),
+            libmvt.Feature(3, {}, "points", [(7, -8), (9, 9)]),
+            libmvt.Feature(4, {}, "unknown", [9, 2, 2]),
         ).shapes
         assert shapes.kinds.tolist() == [3, 2, 1, 0]
         assert shapes.parts.tolist() == [0, 3, 5, 6, 6]
@@ -96,7 +106,9 @@ class TestFrames:
         assert shapes.points[12:].tolist() == [[0, 0], [5, 5], [1, 1], [2, 2], [3, 1], [7, -8], [9, 9]]
 
     def test_names_and_rows(self):
-        tile = libmvt.rows(libmvt.write(libmvt.Tile([libmvt.Layer("a", 512, [point(k=1)]), libmvt.Layer("b", 4096, [])])))
+        tile = libmvt.rows(
+            libmvt.write(libmvt.Tile([libmvt.Layer("a", 512, [point(k=1)]), libmvt.Layer("b", 4096, [])]))
+        )
         frame = tile.frame(tile.layers[0])
         assert (frame.name, frame.extent, len(frame)) == ("a", 512, 1)
         assert repr(frame) == "<Frame 'a': 1 features, columns k>"
@@ -110,7 +122,8 @@ class TestFrames:
             layers=numpy.array([(2, 4096, (0, 1), (0, 3000), (0, 0), (0, 0), (0, 0))], libmvt.dtype("layers")),
             features=numpy.array(spans, libmvt.dtype("features")),
             parts=numpy.array([(0, (0, 100_000))], libmvt.dtype("parts")),
-            points=numpy.zeros((100_000, 2), int), texts=b"a",
+            points=numpy.zeros((100_000, 2), int),
+            texts=b"a",
         )
         with pytest.raises(MemoryError):
             rows.frame("a")
@@ -128,9 +141,12 @@ class TestGeopandas:
         lines = [[(0, 0), (5, 5)], [(1, 1), (2, 2), (3, 1)]]
         features = [
             libmvt.Feature(1, {"k": "x"}, "polygons", [[RING, HOLE], [[(20, 0), (30, 0), (30, 9), (20, 0)]]]),
-            libmvt.Feature(2, {"k": "y"}, "polygons", [[RING]]), libmvt.Feature(3, {}, "lines", lines),
-            libmvt.Feature(4, {}, "lines", lines[:1]), libmvt.Feature(5, {}, "points", [(7, -8), (9, 9)]),
-            libmvt.Feature(6, {}, "points", [(7, 8)]), libmvt.Feature(7, {}, "unknown", [9, 2, 2]),
+            libmvt.Feature(2, {"k": "y"}, "polygons", [[RING]]),
+            libmvt.Feature(3, {}, "lines", lines),
+            libmvt.Feature(4, {}, "lines", lines[:1]),
+            libmvt.Feature(5, {}, "points", [(7, -8), (9, 9)]),
+            libmvt.Feature(6, {}, "points", [(7, 8)]),
+            libmvt.Feature(7, {}, "unknown", [9, 2, 2]),
         ]
         layer = libmvt.Layer("a", 4096, features)
         wanted = libmvt.to_geojson(libmvt.Tile([layer]), *PLACE)["features"]

@@ -50,7 +50,9 @@ def test_an_installed_library(tmp_path):
     """The library is found by pkg-config."""
     lines = (BUILT / "mvt.pc").read_text().splitlines()
     places = {"libdir": BUILT, "includedir": TOP / "library/c"}
-    told = [f"{line.split('=')[0]}={places[line.split('=')[0]]}" if line.split("=")[0] in places else line for line in lines]
+    told = [
+        f"{line.split('=')[0]}={places[line.split('=')[0]]}" if line.split("=")[0] in places else line for line in lines
+    ]
     (tmp_path / "mvt.pc").write_text("\n".join(told) + "\n")
     environment = {**all_cases(), "PKG_CONFIG_PATH": str(tmp_path), "LD_LIBRARY_PATH": str(BUILT)}
     go("test", "-tags", "mvt_system", "./...", env=environment)
@@ -61,11 +63,15 @@ def test_threads():
     go("test", "-race", "-run", "Several|Guard", "./...", env=all_cases())
 
 
-@pytest.mark.parametrize("where", [{"CGO_ENABLED": "0"}, {"CGO_ENABLED": "0", "GOARCH": "arm64"}], ids=["no-cgo", "arm64"])
+@pytest.mark.parametrize(
+    "where", [{"CGO_ENABLED": "0"}, {"CGO_ENABLED": "0", "GOARCH": "arm64"}], ids=["no-cgo", "arm64"]
+)
 @pytest.mark.parametrize("word", ["build", "vet"])
 def test_where_it_cannot_be(word, where):
     """One line says what is wanted."""
-    told = subprocess.run(["go", word, "."], capture_output=True, text=True, cwd=module(), env={**alone(os.environ), **where})
+    told = subprocess.run(
+        ["go", word, "."], capture_output=True, text=True, cwd=module(), env={**alone(os.environ), **where}
+    )
     lines = [line for line in told.stderr.splitlines() if not line.startswith("#")]
     wanted = "mvt_wants_cgo_and_linux_on_amd64_or_the_tag_mvt_system_with_an_installed_libmvt"
     assert told.returncode and len(lines) == 1 and lines[0].endswith(f": undefined: {wanted}"), told.stderr
@@ -76,7 +82,9 @@ def test_before_it_is_built(tmp_path):
     copy = shutil.copytree(TOP / "library/go", tmp_path / "go", ignore=shutil.ignore_patterns("archive.go", "*.a"))
     shutil.copy(TOP / "library/c/mvt.h", copy)
     told = subprocess.run(["go", "build", "."], capture_output=True, text=True, cwd=copy, env=alone(os.environ))
-    assert told.returncode and told.stderr.splitlines()[-1].endswith(": undefined: archiveThatLibraryBuildMakes"), told.stderr
+    assert told.returncode and told.stderr.splitlines()[-1].endswith(
+        ": undefined: archiveThatLibraryBuildMakes"
+    ), told.stderr
 
 
 def test_a_new_library_is_linked(tmp_path):
@@ -84,11 +92,17 @@ def test_a_new_library_is_linked(tmp_path):
     copy = shutil.copytree(module(), tmp_path / "mvt")
     built = Path(shutil.copytree(BUILT, tmp_path / "built", ignore=shutil.ignore_patterns("packages")))
     content = (built / "libmvt.a").read_bytes()
-    version = next(line.split('"')[1] for line in (BUILT / "mvt.h").read_text().splitlines() if "MVT_VERSION" in line).encode()
+    version = next(
+        line.split('"')[1] for line in (BUILT / "mvt.h").read_text().splitlines() if "MVT_VERSION" in line
+    ).encode()
     assert content.count(version + b"\0") > 0
     (tmp_path / "user").mkdir()
-    (tmp_path / "user/go.mod").write_text(f"module user\n\ngo 1.19\n\nrequire {GO_MODULE} v0.0.0\n\nreplace {GO_MODULE} => {copy}\n")
-    (tmp_path / "user/main.go").write_text(f'package main\n\nimport "{GO_MODULE}"\n\nfunc main() {{ println(libmvt.Version()) }}\n')
+    (tmp_path / "user/go.mod").write_text(
+        f"module user\n\ngo 1.19\n\nrequire {GO_MODULE} v0.0.0\n\nreplace {GO_MODULE} => {copy}\n"
+    )
+    (tmp_path / "user/main.go").write_text(
+        f'package main\n\nimport "{GO_MODULE}"\n\nfunc main() {{ println(libmvt.Version()) }}\n'
+    )
     go("build", "-o", "first", ".", cwd=tmp_path / "user")
     assert run(tmp_path / "user/first").stderr.strip() == version.decode()
     (built / "libmvt.a").write_bytes(content.replace(version + b"\0", b"7" * len(version) + b"\0"))

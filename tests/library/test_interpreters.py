@@ -93,7 +93,14 @@ class Two:
     def begun(self):
         """An interpreter that has the module."""
         made = created(self.has_lock)
-        told = {"path": sys.path, "tile": TILE, "canonical": CANONICAL, "broken": BROKEN, "rows": id(libmvt.Rows), "refused": id(libmvt.Refused)}
+        told = {
+            "path": sys.path,
+            "tile": TILE,
+            "canonical": CANONICAL,
+            "broken": BROKEN,
+            "rows": id(libmvt.Rows),
+            "refused": id(libmvt.Refused),
+        }
         run_in(made, BEGIN.format(**told))
         return made
 

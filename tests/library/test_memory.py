@@ -50,7 +50,11 @@ def tile_with(**changed):
 
 def texts_of_rows():
     flat = libmvt.rows(TILE)
-    return [flat.text(layer.name) for layer in flat.layers], [flat.line(part) for part in flat.parts], repr(flat.points[0])
+    return (
+        [flat.text(layer.name) for layer in flat.layers],
+        [flat.line(part) for part in flat.parts],
+        repr(flat.points[0]),
+    )
 
 
 GOOD = (

@@ -39,7 +39,9 @@ def varint(number):
 class Mending(unittest.TestCase):
     def test_a_ring_is_turned(self):
         """The ring (20, 34), (8, 12), (3, 6) of negative area."""
-        wanted = libmvt.Builder().layer("a").feature("polygons").ring([(20, 34), (3, 6), (8, 12)], exterior=True).finish()
+        wanted = (
+            libmvt.Builder().layer("a").feature("polygons").ring([(20, 34), (3, 6), (8, 12)], exterior=True).finish()
+        )
         made, changes = libmvt.mend(broken("22-FirstRing"))
         self.assertEqual((made, changes), (wanted, [libmvt.Change("TurnedRing", 0, 0, 0)]))
         self.assertEqual(str(changes[0]), "layer 0 feature 0: TurnedRing 0")

@@ -36,7 +36,17 @@ TILES = Path(__file__).resolve().parents[2] / "fixtures" / "tiles"
 WHOLE = ("gdal", "postgis")
 SVG = "{http://www.w3.org/2000/svg}"
 LISTS = ("layers", "features", "keys", "values", "tags", "parts", "points", "integers", "texts")
-CALLS = (libmvt.judge, libmvt.lint, libmvt.read, libmvt.rows, libmvt.report, libmvt.rewrite, libmvt.survey, libmvt.to_json, libmvt.to_svg)
+CALLS = (
+    libmvt.judge,
+    libmvt.lint,
+    libmvt.read,
+    libmvt.rows,
+    libmvt.report,
+    libmvt.rewrite,
+    libmvt.survey,
+    libmvt.to_json,
+    libmvt.to_svg,
+)
 
 
 def tile(name):
@@ -78,9 +88,9 @@ class WholeTiles(unittest.TestCase):
     def test_reports_what_the_program_reports(self):
         triangle = varint(9) + zigzags(0, 0) + varint(26) + zigzags(4, 0, 0, 4, -4, -4) + varint(15)
         flat = varint(9) + zigzags(0, 0) + varint(18) + zigzags(4, 4, 2, 2) + varint(15)
-        features = [
-            field(2, field(1, id) + field(3, 3) + field(4, triangle + flat)) for id in (7, 8, 7)
-        ] + [field(2, field(1, 7) + field(3, 1) + field(4, varint(9) + zigzags(1, 1)))]
+        features = [field(2, field(1, id) + field(3, 3) + field(4, triangle + flat)) for id in (7, 8, 7)] + [
+            field(2, field(1, 7) + field(3, 1) + field(4, varint(9) + zigzags(1, 1)))
+        ]
         whole = [
             field(3, field(15, 2) + field(1, b"a") + b"".join(features)),
             field(3, field(15, 1) + field(1, b"b")),
@@ -88,10 +98,14 @@ class WholeTiles(unittest.TestCase):
         ]
         made = [b"", b"".join(whole)]
         for of in made:
-            told = subprocess.run([os.environ["MVT"], "check"], input=of, capture_output=True, check=True).stdout.decode()
+            told = subprocess.run(
+                [os.environ["MVT"], "check"], input=of, capture_output=True, check=True
+            ).stdout.decode()
             self.assertEqual((libmvt.report(of), str(libmvt.report(of))), (told, told))
             survey = libmvt.survey(of)
-            first = f"ok layers {survey.layers} features {survey.features} canonical {'yes' if survey.canonical else 'no'}"
+            first = (
+                f"ok layers {survey.layers} features {survey.features} canonical {'yes' if survey.canonical else 'no'}"
+            )
             self.assertEqual([first] + [f"note {note}" for note in survey.notes], told.splitlines())
             self.assertIsNone(libmvt.judge(of))
         self.assertEqual(len(libmvt.report(made[1]).splitlines()), 11)
@@ -103,24 +117,35 @@ class WholeTiles(unittest.TestCase):
         layers = [field(15, 2) + field(1, b"a") + b"".join(features), field(15, 1), field(15, 2) + field(1, b"c")]
         told = libmvt.report(b"".join(field(3, layer) for layer in layers))
         self.assertEqual((told.layers, told.features, told.canonical), (3, 2, False))
-        self.assertCountEqual(told.notes, [
-            libmvt.Note("RepeatedId", layer=0, feature=1, earlier=0),
-            libmvt.Note("ClosedTwice", layer=0, feature=0, ring=0),
-            libmvt.Note("ClosedTwice", layer=0, feature=1, ring=0),
-            libmvt.Note("FlatRing", layer=0, feature=0, ring=1),
-            libmvt.Note("FlatRing", layer=0, feature=1, ring=1),
-            libmvt.Note("Foreign", layer=1, version=1),
-            libmvt.Note("NoFeatures", layer=2),
-        ])
+        self.assertCountEqual(
+            told.notes,
+            [
+                libmvt.Note("RepeatedId", layer=0, feature=1, earlier=0),
+                libmvt.Note("ClosedTwice", layer=0, feature=0, ring=0),
+                libmvt.Note("ClosedTwice", layer=0, feature=1, ring=0),
+                libmvt.Note("FlatRing", layer=0, feature=0, ring=1),
+                libmvt.Note("FlatRing", layer=0, feature=1, ring=1),
+                libmvt.Note("Foreign", layer=1, version=1),
+                libmvt.Note("NoFeatures", layer=2),
+            ],
+        )
         none = libmvt.report(b"")
-        self.assertEqual((none.layers, none.features, none.canonical, none.notes), (0, 0, True, [libmvt.Note("NoLayers")]))
-        self.assertTrue(repr(none).startswith("Report(layers=0, features=0, canonical=True, notes=[Note(kind='NoLayers'"))
+        self.assertEqual(
+            (none.layers, none.features, none.canonical, none.notes), (0, 0, True, [libmvt.Note("NoLayers")])
+        )
+        self.assertTrue(
+            repr(none).startswith("Report(layers=0, features=0, canonical=True, notes=[Note(kind='NoLayers'")
+        )
         self.assertEqual(pickle.loads(pickle.dumps(told)).notes, told.notes)
         many = libmvt.report(b"".join(field(3, field(15, 2) + field(1, b"%d" % n)) for n in range(1000)))
         self.assertEqual((len(many.notes), len(repr(many))), (1000, 1000))
 
     def test_a_name_is_no_tile(self):
-        for call in CALLS + (libmvt.Decoder().feed, lambda name: libmvt.extract(name, []), lambda name: libmvt.read_layer(name, "a")):
+        for call in CALLS + (
+            libmvt.Decoder().feed,
+            lambda name: libmvt.extract(name, []),
+            lambda name: libmvt.read_layer(name, "a"),
+        ):
             for name in ("town.mvt", Path("town.mvt")):
                 with self.assertRaisesRegex(TypeError, r"^this takes the bytes of a tile, not its name: open"):
                     call(name)
@@ -130,21 +155,30 @@ class WholeTiles(unittest.TestCase):
 
     def test_lints_what_the_program_lints(self):
         far = field(2, field(3, 1) + field(4, varint(9) + zigzags(20000, -7)))
-        large = field(2, field(1, 2**53) + field(2, varint(0) + varint(0)) + field(3, 1) + field(4, varint(9) + zigzags(1, 1)))
+        large = field(
+            2, field(1, 2**53) + field(2, varint(0) + varint(0)) + field(3, 1) + field(4, varint(9) + zigzags(1, 1))
+        )
         unknown = field(2, b"") + field(2, field(4, varint(7)))
         entries = field(3, b"n") + field(4, field(4, 2**64 - 2**53))
         found = field(3, field(15, 2) + field(1, b"a") + far + large + unknown + entries) + field(
-            3, field(15, 2) + field(1, b"b") + field(5, 0))
-        self.assertEqual(libmvt.lint(found), [
-            libmvt.Finding("FarPoint", 0, 0, None, (20000, -7)),
-            libmvt.Finding("LargeId", 0, 1),
-            libmvt.Finding("LargeNumber", 0, 1, 0),
-            libmvt.Finding("NoGeometry", 0, 2),
-            libmvt.Finding("UnknownGeometry", 0, 3),
-            libmvt.Finding("ZeroExtent", 1),
-        ])
-        self.assertEqual("; ".join(map(str, libmvt.lint(found))), "FarPoint layer 0 feature 0 position 20000 -7; LargeId layer 0 feature 1; "
-            "LargeNumber layer 0 feature 1 attribute 0; NoGeometry layer 0 feature 2; UnknownGeometry layer 0 feature 3; ZeroExtent layer 1")
+            3, field(15, 2) + field(1, b"b") + field(5, 0)
+        )
+        self.assertEqual(
+            libmvt.lint(found),
+            [
+                libmvt.Finding("FarPoint", 0, 0, None, (20000, -7)),
+                libmvt.Finding("LargeId", 0, 1),
+                libmvt.Finding("LargeNumber", 0, 1, 0),
+                libmvt.Finding("NoGeometry", 0, 2),
+                libmvt.Finding("UnknownGeometry", 0, 3),
+                libmvt.Finding("ZeroExtent", 1),
+            ],
+        )
+        self.assertEqual(
+            "; ".join(map(str, libmvt.lint(found))),
+            "FarPoint layer 0 feature 0 position 20000 -7; LargeId layer 0 feature 1; "
+            "LargeNumber layer 0 feature 1 attribute 0; NoGeometry layer 0 feature 2; UnknownGeometry layer 0 feature 3; ZeroExtent layer 1",
+        )
 
     def test_notes_and_findings_mean_what_the_document_says(self):
         document = (TILES.parent.parent / "docs" / "PROGRAM.md").read_text()
@@ -163,8 +197,10 @@ class WholeTiles(unittest.TestCase):
         of_rows = [(number, name) for name, number in re.findall(r"^\| (\w+) \| (\d+) \|", document, re.MULTILINE)]
         self.assertEqual({int(number): name for number, name in rules + of_rows}, libmvt.CAUSES)
         self.assertEqual([cause_text(number)[-1] for number in libmvt.CAUSES], ["."] * len(libmvt.CAUSES))
-        self.assertEqual([text(99) for text in (cause_text, note_text, finding_text)],
-                         ["no cause of this library", "no note of this library", "no finding of this library"])
+        self.assertEqual(
+            [text(99) for text in (cause_text, note_text, finding_text)],
+            ["no cause of this library", "no note of this library", "no finding of this library"],
+        )
         self.assertEqual(libmvt.LIMIT, 2**26)
 
     def test_draws(self):
@@ -187,7 +223,9 @@ class WholeTiles(unittest.TestCase):
 
     def test_carries_other_versions(self):
         # A layer of version 1 named a.
-        self.assertEqual(libmvt.read(bytes.fromhex("1A0578010A0161")).layers, [libmvt.Foreign(1, bytes.fromhex("78010A0161"))])
+        self.assertEqual(
+            libmvt.read(bytes.fromhex("1A0578010A0161")).layers, [libmvt.Foreign(1, bytes.fromhex("78010A0161"))]
+        )
 
     def test_finds_layers_by_name(self):
         foreign = bytes.fromhex("1A0578010A0161")
@@ -212,12 +250,20 @@ class WholeTiles(unittest.TestCase):
     def test_a_repr_fits_on_a_screen(self):
         point = libmvt.Feature(7, {"name": "Mill Pond", "n": libmvt.Int(-5)}, "points", [(1, 2)])
         few = libmvt.Tile([libmvt.Layer("a", 4096, [point]), libmvt.Foreign(1, b"x"), libmvt.Layer("b", 1, [])])
-        wanted = ("Tile(layers=[Layer(name='a', extent=4096, features=[Feature(id=7, attributes={'name': 'Mill Pond', 'n': -5}, "
-                  "kind='points', geometry=[(1, 2)])]), Foreign(version=1, bytes=b'x'), Layer(name='b', extent=1, features=[])])")
+        wanted = (
+            "Tile(layers=[Layer(name='a', extent=4096, features=[Feature(id=7, attributes={'name': 'Mill Pond', 'n': -5}, "
+            "kind='points', geometry=[(1, 2)])]), Foreign(version=1, bytes=b'x'), Layer(name='b', extent=1, features=[])])"
+        )
         self.assertEqual(repr(few), wanted)
         many = libmvt.Layer("a", 4096, [point] * 100_000)
         long = libmvt.Feature(None, {"k": "x" * 10_000_000}, "points", [(1, 1)] * 1_000_000)
-        for large in (many, libmvt.Tile([many] * 9), long, libmvt.Foreign(1, bytes(10_000_000)), libmvt.Tile([libmvt.Layer("x" * 9999, 1, [])])):
+        for large in (
+            many,
+            libmvt.Tile([many] * 9),
+            long,
+            libmvt.Foreign(1, bytes(10_000_000)),
+            libmvt.Tile([libmvt.Layer("x" * 9999, 1, [])]),
+        ):
             self.assertEqual((len(repr(large)), repr(large)[-1]), (1000, "…"))
         self.assertTrue(repr(many).startswith(wanted[13:120]))
 
@@ -409,7 +455,9 @@ class Threads(unittest.TestCase):
         tiles = [tile(name + ".mvt") for name in WHOLE] * 50
         alone = [(libmvt.rewrite(it), libmvt.to_json(it), libmvt.read(it)) for it in tiles[:2]] * 50
         with ThreadPoolExecutor(4) as threads:
-            self.assertEqual(list(threads.map(lambda it: (libmvt.rewrite(it), libmvt.to_json(it), libmvt.read(it)), tiles)), alone)
+            self.assertEqual(
+                list(threads.map(lambda it: (libmvt.rewrite(it), libmvt.to_json(it), libmvt.read(it)), tiles)), alone
+            )
 
 
 class Arrays(unittest.TestCase):

@@ -17,7 +17,10 @@ import pytest
 from documented import program_of
 from room import BUILT, GO_MODULE, TILES, TOP, all_cases, made, needs, run
 
-pytestmark = [pytest.mark.xdist_group("packages"), needs("dpkg-deb", "dpkg", "dh", "dh_python3", "pandoc", "pkg-config", "man", "g++")]
+pytestmark = [
+    pytest.mark.xdist_group("packages"),
+    needs("dpkg-deb", "dpkg", "dh", "dh_python3", "pandoc", "pkg-config", "man", "g++"),
+]
 [VERSION] = re.findall(r'^#define MVT_VERSION "(.*)"$', (TOP / "library/c/mvt.h").read_text(), re.M)
 SERIES = VERSION.rpartition(".")[0]
 NAMES = ["mvt", f"libmvt{SERIES}", "libmvt-dev", "python3-libmvt", "mvt-tools"]
@@ -25,8 +28,15 @@ LAYERS = "places: 3 features\nroads: 2 features\nwater: 2 features\n"
 GDAL, REPORT = TILES / "gdal.mvt", (TILES / "gdal.check").read_text()
 HERE = Path(__file__).parent
 # Of one commit, though another may be made meanwhile.
-os.environ["SOURCE_DATE_EPOCH"] = subprocess.run(["git", "log", "-1", "--format=%ct"], cwd=TOP, capture_output=True, text=True).stdout.strip() or "315532800"
-PLAIN = {name: value for name, value in os.environ.items() if name not in ("PYTHONPATH", "PKG_CONFIG_PATH", "MVT_LIB_DIR", "BUILT")}
+os.environ["SOURCE_DATE_EPOCH"] = (
+    subprocess.run(["git", "log", "-1", "--format=%ct"], cwd=TOP, capture_output=True, text=True).stdout.strip()
+    or "315532800"
+)
+PLAIN = {
+    name: value
+    for name, value in os.environ.items()
+    if name not in ("PYTHONPATH", "PKG_CONFIG_PATH", "MVT_LIB_DIR", "BUILT")
+}
 OWN_TESTS = ["module", "writing", "building", "lifetimes", "threads"]
 
 
@@ -74,10 +84,16 @@ def contents(path, name):
             return [files.read(each).decode() for each in files.namelist() if each.endswith(f"/{name}")]
     packed = run("dpkg-deb", "--fsys-tarfile", path, text=False).stdout if path.suffix == ".deb" else path.read_bytes()
     with tarfile.open(fileobj=io.BytesIO(packed)) as files:
-        return [files.extractfile(each).read().decode() for each in files if each.isfile() and each.name.endswith(f"/{name}")]
+        return [
+            files.extractfile(each).read().decode()
+            for each in files
+            if each.isfile() and each.name.endswith(f"/{name}")
+        ]
 
 
-@pytest.mark.parametrize("pattern", ["mvt-*.tar.gz", "libmvt-*.whl", "libmvt-*.tar.gz", "libmvt-sys-*.crate", "go/**/*.zip"])
+@pytest.mark.parametrize(
+    "pattern", ["mvt-*.tar.gz", "libmvt-*.whl", "libmvt-*.tar.gz", "libmvt-sys-*.crate", "go/**/*.zip"]
+)
 def test_notices(pattern):
     """What has the library in it has the notices of the code that is linked."""
     found = [path for path in packages().glob(pattern) if not path.name.startswith("mvt-tools")]
@@ -143,7 +159,10 @@ class TestInstalled:
     def test_the_program(self):
         assert of_gdal("mvt", "check") == REPORT
 
-    @pytest.mark.parametrize("section, name", [(1, "mvt"), (1, "mvt-audit"), (1, "mvt-geojson"), (1, "mvt-page"), (1, "mvt-tile"), (3, "mvt")])
+    @pytest.mark.parametrize(
+        "section, name",
+        [(1, "mvt"), (1, "mvt-audit"), (1, "mvt-geojson"), (1, "mvt-page"), (1, "mvt-tile"), (3, "mvt")],
+    )
     def test_manual_page(self, section, name):
         """It ends with the version that mvt.h has."""
         assert run("man", section, name).stdout.splitlines()[-1].startswith(f"mvt {VERSION} ")
@@ -154,7 +173,15 @@ class TestInstalled:
         run(sys.executable, HERE / "filter.py", tmp_path / "filter")
 
     def test_c_static(self, tmp_path):
-        run("cc", "-std=c11", "-static", "-o", tmp_path / "filter", TOP / "examples/c/filter.c", *flags("--cflags", "--static", "--libs"))
+        run(
+            "cc",
+            "-std=c11",
+            "-static",
+            "-o",
+            tmp_path / "filter",
+            TOP / "examples/c/filter.c",
+            *flags("--cflags", "--static", "--libs"),
+        )
         run(sys.executable, HERE / "filter.py", tmp_path / "filter")
 
     def test_cpp(self, tmp_path):
@@ -181,7 +208,12 @@ class TestInstalled:
     @needs("go")
     def test_go(self, tmp_path):
         shutil.copytree(TOP / "library/go", tmp_path / "go")
-        environment = {**PLAIN, "MVT_CASES": all_cases()["MVT_CASES"], "GOPROXY": "off", "GOCACHE": os.environ["MVT_ROOM"] + "/go-cache"}
+        environment = {
+            **PLAIN,
+            "MVT_CASES": all_cases()["MVT_CASES"],
+            "GOPROXY": "off",
+            "GOCACHE": os.environ["MVT_ROOM"] + "/go-cache",
+        }
         run("go", "test", "-tags", "mvt_system", "./...", cwd=tmp_path / "go", env=environment)
 
     @needs("cmake")
@@ -192,7 +224,16 @@ class TestInstalled:
 def with_cmake(folder, *words):
     """CMake finds the library, and projects are built with it: in C, shared and static, and in C++."""
     for project in (".", "cpp"):
-        run("cmake", "-S", HERE / "cmake" / project, "-B", folder / "made" / project, f"-DEXAMPLES={TOP}/examples", f"-DSERIES={SERIES}", *words)
+        run(
+            "cmake",
+            "-S",
+            HERE / "cmake" / project,
+            "-B",
+            folder / "made" / project,
+            f"-DEXAMPLES={TOP}/examples",
+            f"-DSERIES={SERIES}",
+            *words,
+        )
         run("cmake", "--build", folder / "made" / project)
     for kind in ("shared", "static"):
         run(sys.executable, HERE / "filter.py", folder / "made" / f"filter_{kind}")
@@ -211,7 +252,16 @@ def audits(command, folder):
 
 def serves(command, python):
     """The command is started, makes calls, and is ended."""
-    words = ["-m", "pytest", "-q", "-p", "no:xdist", TOP / "tests/tools/page/test_protocol.py", "-k", "Calls or Command"]
+    words = [
+        "-m",
+        "pytest",
+        "-q",
+        "-p",
+        "no:xdist",
+        TOP / "tests/tools/page/test_protocol.py",
+        "-k",
+        "Calls or Command",
+    ]
     run(python, *words, env={**PLAIN, "MVT_PAGE": shutil.which(command) or str(command)})
 
 
@@ -236,7 +286,14 @@ class TestTarball:
         assert of_gdal(tmp_path / "list", env={**alone(tmp_path), "LD_LIBRARY_PATH": str(unpacked() / "lib")}) == LAYERS
 
     def test_static(self, tmp_path):
-        words = ["-std=c++20", f"-I{unpacked()}/include", "-o", tmp_path / "list", document("list.cpp"), unpacked() / "lib/libmvt.a"]
+        words = [
+            "-std=c++20",
+            f"-I{unpacked()}/include",
+            "-o",
+            tmp_path / "list",
+            document("list.cpp"),
+            unpacked() / "lib/libmvt.a",
+        ]
         run("c++", *words, env=alone(tmp_path))
         assert of_gdal(tmp_path / "list", env=alone(tmp_path)) == LAYERS
 
@@ -270,7 +327,12 @@ def test_go_module(tmp_path):
     """As a proxy hands it out."""
     (tmp_path / "list").mkdir()
     shutil.copy(document("list.go"), tmp_path / "list")
-    environment = {**PLAIN, "GOPROXY": f"file://{packages()}/go", "GONOSUMDB": GO_MODULE.partition("/")[0], "GOFLAGS": "-mod=mod -modcacherw"}
+    environment = {
+        **PLAIN,
+        "GOPROXY": f"file://{packages()}/go",
+        "GONOSUMDB": GO_MODULE.partition("/")[0],
+        "GOFLAGS": "-mod=mod -modcacherw",
+    }
     environment.update(GOCACHE=os.environ["MVT_ROOM"] + "/go-cache", GOMODCACHE=str(tmp_path / "modules"))
     for words in (["mod", "init", "example.com/list"], ["get", f"{GO_MODULE}@v{VERSION}"], ["build", "-o", "list_go"]):
         run("go", *words, cwd=tmp_path / "list", env=environment)
@@ -301,12 +363,18 @@ def lists(python, home):
 
 @pytest.fixture(scope="module")
 def wheel(tmp_path_factory):
-    yield environment_of(tmp_path_factory.mktemp("wheel") / "venv", sys.executable, *wheels(), options=["--system-site-packages"])
+    yield environment_of(
+        tmp_path_factory.mktemp("wheel") / "venv", sys.executable, *wheels(), options=["--system-site-packages"]
+    )
 
 
 class TestWheel:
     def test_its_platform(self):
-        assert [path for path in wheels() if re.fullmatch(r"libmvt-[0-9.]*-cp39-abi3-manylinux_2_[0-9]*_x86_64\.whl", path.name)]
+        assert [
+            path
+            for path in wheels()
+            if re.fullmatch(r"libmvt-[0-9.]*-cp39-abi3-manylinux_2_[0-9]*_x86_64\.whl", path.name)
+        ]
 
     def test_the_c_library_alone(self):
         told = run("readelf", "-d", BUILT / "_mvt.abi3.so").stdout
@@ -322,11 +390,22 @@ class TestWheel:
     def test_audit(self, wheel, tmp_path):
         audits(wheel / "mvt-audit", tmp_path)
 
-    @pytest.mark.parametrize("name", ["pmtiles.py Archives.test_the_same_table_as_a_folder_and_mbtiles", "server.py Servers.test_the_same_table_as_a_folder"])
+    @pytest.mark.parametrize(
+        "name",
+        [
+            "pmtiles.py Archives.test_the_same_table_as_a_folder_and_mbtiles",
+            "server.py Servers.test_the_same_table_as_a_folder",
+        ],
+    )
     def test_each_kind_of_store(self, wheel, name):
         """One table of the example tiles, whatever they are stored in."""
         file, test = name.split()
-        run(wheel / "python", TOP / f"tests/tools/audit/test_{file}", test, env={**PLAIN, "MVT_AUDIT": str(wheel / "mvt-audit")})
+        run(
+            wheel / "python",
+            TOP / f"tests/tools/audit/test_{file}",
+            test,
+            env={**PLAIN, "MVT_AUDIT": str(wheel / "mvt-audit")},
+        )
 
     def test_alone_with_its_extra(self, tmp_path):
         bare = environment_of(tmp_path / "bare", sys.executable, "--find-links", packages(), "libmvt[tools]")
@@ -376,8 +455,20 @@ def by_hand(tmp_path_factory):
 class TestByHand:
     def test_c(self, by_hand, tmp_path):
         environment = {**os.environ, "PKG_CONFIG_PATH": str(by_hand / "lib/pkgconfig")}
-        run("cc", "-std=c11", "-o", tmp_path / "filter", TOP / "examples/c/filter.c", *flags("--cflags", "--libs", env=environment))
-        run(sys.executable, HERE / "filter.py", tmp_path / "filter", env={**os.environ, "LD_LIBRARY_PATH": str(by_hand / "lib")})
+        run(
+            "cc",
+            "-std=c11",
+            "-o",
+            tmp_path / "filter",
+            TOP / "examples/c/filter.c",
+            *flags("--cflags", "--libs", env=environment),
+        )
+        run(
+            sys.executable,
+            HERE / "filter.py",
+            tmp_path / "filter",
+            env={**os.environ, "LD_LIBRARY_PATH": str(by_hand / "lib")},
+        )
         assert flags("--modversion", env=environment) == [VERSION] and (by_hand / "share/man/man3/mvt.3").exists()
 
     @needs("cmake")

@@ -22,5 +22,8 @@ class Places(unittest.TestCase):
             self.assertEqual(libmvt.looks_like(head), places.looks_like(head), head)
 
     def test_each_cause_has_its_sentence(self):
-        causes = {int(cause) for cause in places.re.findall(r"^\| (\d+) \|", (places.TOP / "docs/FORMAT.md").read_text(), places.re.M)}
+        causes = {
+            int(cause)
+            for cause in places.re.findall(r"^\| (\d+) \|", (places.TOP / "docs/FORMAT.md").read_text(), places.re.M)
+        }
         self.assertEqual(set(places.documented()), causes)

@@ -8,7 +8,16 @@ import pytest
 from hypothesis import HealthCheck, given, settings
 from hypothesis import strategies as some
 
-CALLS = (libmvt.read, libmvt.rows, libmvt.rewrite, libmvt.report, libmvt.survey, libmvt.lint, libmvt.to_json, libmvt.to_svg)
+CALLS = (
+    libmvt.read,
+    libmvt.rows,
+    libmvt.rewrite,
+    libmvt.report,
+    libmvt.survey,
+    libmvt.lint,
+    libmvt.to_json,
+    libmvt.to_svg,
+)
 # A busy machine is no fault.
 busy = [HealthCheck.too_slow, HealthCheck.data_too_large]
 settings.register_profile("gate", derandomize=True, deadline=None, max_examples=300, suppress_health_check=busy)
@@ -157,10 +166,26 @@ def test_odd_objects(identifier, attributes, kind, geometry, name, extent):
         libmvt.judge(written)
 
 
-STEPS = ["layer", "foreign", "key", "value", "feature", "tag", "tag_at", "point", "points", "line", "ring", "integers", "drop"]
+STEPS = [
+    "layer",
+    "foreign",
+    "key",
+    "value",
+    "feature",
+    "tag",
+    "tag_at",
+    "point",
+    "points",
+    "line",
+    "ring",
+    "integers",
+    "drop",
+]
 
 
-@given(some.lists(some.tuples(some.sampled_from(STEPS), some.lists(oddities | texts | points, max_size=3)), max_size=12))
+@given(
+    some.lists(some.tuples(some.sampled_from(STEPS), some.lists(oddities | texts | points, max_size=3)), max_size=12)
+)
 def test_odd_builders(steps):
     """Calls in any order, with any arguments: each answers or raises, and what is finished is a tile."""
     builder = libmvt.Builder()

@@ -62,7 +62,12 @@ def test_with_sanitizers(part):
     if not Path(sysconfig.get_path("include"), "Python.h").exists():
         pytest.skip("the headers of Python aren't there")
     preloaded = run("gcc", "-print-file-name=libasan.so").stdout.strip()
-    told = {"LD_PRELOAD": preloaded, "ASAN_OPTIONS": "detect_leaks=0", "PYTHONMALLOC": "malloc", "PYTHONPATH": str(sanitized())}
+    told = {
+        "LD_PRELOAD": preloaded,
+        "ASAN_OPTIONS": "detect_leaks=0",
+        "PYTHONMALLOC": "malloc",
+        "PYTHONPATH": str(sanitized()),
+    }
     run(sys.executable, HERE / f"test_{part}.py", env={**os.environ, **told})
 
 
@@ -72,7 +77,9 @@ def test_points():
 
 
 @needs("mypy")
-@pytest.mark.parametrize("paths", [["library/python/libmvt", "tests/library/typed.py"], ["tools/mvt_tools"]], ids=lambda it: it[0])
+@pytest.mark.parametrize(
+    "paths", [["library/python/libmvt", "tests/library/typed.py"], ["tools/mvt_tools"]], ids=lambda it: it[0]
+)
 def test_types(paths):
     run("mypy", "--strict", "--cache-dir=/dev/null", *paths, cwd=TOP, env={**os.environ, "MYPYPATH": "library/python"})
 
@@ -80,7 +87,9 @@ def test_types(paths):
 @needs("pyflakes3", "git")
 def test_all_python_by_pyflakes():
     """With or without an ending."""
-    told = subprocess.run(["git", "grep", "-lE", "^#!.*python", "--", ":!*.py"], cwd=TOP, capture_output=True, text=True).stdout
+    told = subprocess.run(
+        ["git", "grep", "-lE", "^#!.*python", "--", ":!*.py"], cwd=TOP, capture_output=True, text=True
+    ).stdout
     run("pyflakes3", *run("git", "ls-files", "*.py", cwd=TOP).stdout.split(), *told.split(), cwd=TOP)
 
 
@@ -92,10 +101,16 @@ def test_before_it_is_built(tmp_path):
 
 
 @needs("cc")
-@pytest.mark.parametrize("folder, told", [(None, "libmvt isn't installed here"), ("empty", "empty has no libmvt.a"), ("bare", "bare has no mvt.h")])
+@pytest.mark.parametrize(
+    "folder, told",
+    [(None, "libmvt isn't installed here"), ("empty", "empty has no libmvt.a"), ("bare", "bare has no mvt.h")],
+)
 def test_a_source_distribution_without_a_library(tmp_path, folder, told):
     """One line says what to name."""
-    if not folder and not subprocess.run(["cc", "-E", "-include", "mvt.h", "-x", "c", os.devnull], capture_output=True).returncode:
+    if (
+        not folder
+        and not subprocess.run(["cc", "-E", "-include", "mvt.h", "-x", "c", os.devnull], capture_output=True).returncode
+    ):
         pytest.skip("libmvt is installed here")
     shutil.copytree(TOP / "library/python", tmp_path / "python", ignore=shutil.ignore_patterns("*.so"))
     for name in ("empty", "bare"):
@@ -103,7 +118,17 @@ def test_a_source_distribution_without_a_library(tmp_path, folder, told):
     (tmp_path / "bare/libmvt.a").touch()
     environment = {name: value for name, value in os.environ.items() if name != "MVT_LIB_DIR"}
     named = {"MVT_LIB_DIR": str(tmp_path / folder)} if folder else {}
-    ran = run(sys.executable, "-W", "ignore", "setup.py", "-q", "build_ext", status=1, cwd=tmp_path / "python", env={**environment, **named})
+    ran = run(
+        sys.executable,
+        "-W",
+        "ignore",
+        "setup.py",
+        "-q",
+        "build_ext",
+        status=1,
+        cwd=tmp_path / "python",
+        env={**environment, **named},
+    )
     [line] = ran.stderr.splitlines()
     assert f"{told}: MVT_LIB_DIR=FOLDER names the folder of libmvt.a and mvt.h" in line
 
@@ -119,7 +144,9 @@ def others():
     return [pytest.param(path, id=f"3.{minor}") for minor, path in sorted(found.items())]
 
 
-@pytest.mark.parametrize("part", ["around", "building", "interpreters", "lifetimes", "mending", "module", "threads", "writing"])
+@pytest.mark.parametrize(
+    "part", ["around", "building", "interpreters", "lifetimes", "mending", "module", "threads", "writing"]
+)
 @pytest.mark.parametrize("python", others())
 def test_by_another_python(python, part):
     """One extension serves each, without numpy and pytest."""

@@ -12,7 +12,9 @@ pytestmark = needs("cargo")
 
 
 def crate():
-    return made("rust", lambda path: shutil.copytree(TOP / "library/rust", path, ignore=shutil.ignore_patterns("prebuilt")))
+    return made(
+        "rust", lambda path: shutil.copytree(TOP / "library/rust", path, ignore=shutil.ignore_patterns("prebuilt"))
+    )
 
 
 def cargo(*words, env=os.environ, cwd=None, **how):
@@ -59,7 +61,10 @@ def test_the_example(tmp_path):
     cargo("fmt", "--check", cwd=tmp_path / "weigh")
     cargo("build", "-q", cwd=tmp_path / "weigh")
     weigh = crate().with_name("rust-target") / "debug" / "weigh"
-    told = [line.split() for line in run(weigh, input=(TILES / "gdal.mvt").read_bytes(), text=False).stdout.decode().splitlines()]
+    told = [
+        line.split()
+        for line in run(weigh, input=(TILES / "gdal.mvt").read_bytes(), text=False).stdout.decode().splitlines()
+    ]
     assert [name for _, name, *_ in told] == ["places", "roads", "water"]
     assert sum(int(size) for size, *_ in told) == (TILES / "gdal.canonical.mvt").stat().st_size
     why = run(weigh, input=(TILES / "broken/20-ZeroSegment.mvt").read_bytes(), status=1, text=False).stderr

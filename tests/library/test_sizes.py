@@ -61,7 +61,14 @@ class Sizes(unittest.TestCase):
 class Measured(unittest.TestCase):
     def test_of_long_names_the_first_letters_are_told(self):
         """Those of 200 bytes, and a mark."""
-        for letter, before, whole in (("a", "", 200), ("é", "", 100), ("é", "a", 99), ("€", "", 66), ("€", "ab", 66), ("\U0001f600", "", 50)):
+        for letter, before, whole in (
+            ("a", "", 200),
+            ("é", "", 100),
+            ("é", "a", 99),
+            ("€", "", 66),
+            ("€", "ab", 66),
+            ("\U0001f600", "", 50),
+        ):
             for more in (0, 1, 2, 100_000):
                 with self.subTest(letter=letter, more=more):
                     name = before + letter * (whole + more)

@@ -18,7 +18,9 @@ MANY = 200_000
 
 def large():
     """A tile that each call works on for a while."""
-    return libmvt.Tile([libmvt.Layer("a", 4096, [libmvt.Feature(n, {"n": n}, "points", [(n % 4096, 1)]) for n in range(MANY)])])
+    return libmvt.Tile(
+        [libmvt.Layer("a", 4096, [libmvt.Feature(n, {"n": n}, "points", [(n % 4096, 1)]) for n in range(MANY)])]
+    )
 
 
 class Lock(unittest.TestCase):

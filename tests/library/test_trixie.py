@@ -43,7 +43,10 @@ def readme():
 def runs(python):
     code = readme()
     assert code.count("libmvt.to_geopandas(") == 1
-    code = code.replace("libmvt.to_geopandas(", "made = libmvt.to_geopandas(") + "\nprint(len(made), *made.geometry.geom_type)"
+    code = (
+        code.replace("libmvt.to_geopandas(", "made = libmvt.to_geopandas(")
+        + "\nprint(len(made), *made.geometry.geom_type)"
+    )
     told = run(python, "-c", code).stdout.splitlines()
     assert told[0] == "[('places', 3), ('roads', 2), ('water', 2)]" and "Mill Pond" in told[1]
     assert told[2] == "2 Polygon MultiPolygon"

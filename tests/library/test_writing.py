@@ -56,8 +56,14 @@ class Writing(unittest.TestCase):
         self.assertEqual((feature.id, feature.attributes["l"].bits), (7, 0xFFA00001))
 
     def test_numbers_of_pythons_own(self):
-        feature = libmvt.read(libmvt.write(with_feature(attributes={"a": 0, "b": -5, "c": 2**64 - 1}))).layers[0].features[0]
-        self.assertEqual([type(value) for value in feature.attributes.values()], [libmvt.Uint, libmvt.Sint, libmvt.Uint])
+        feature = (
+            libmvt.read(libmvt.write(with_feature(attributes={"a": 0, "b": -5, "c": 2**64 - 1})))
+            .layers[0]
+            .features[0]
+        )
+        self.assertEqual(
+            [type(value) for value in feature.attributes.values()], [libmvt.Uint, libmvt.Sint, libmvt.Uint]
+        )
         self.assertEqual(feature.attributes, {"a": 0, "b": -5, "c": 2**64 - 1})
 
     def test_numbers_of_numpy(self):
@@ -112,15 +118,35 @@ class Writing(unittest.TestCase):
             (libmvt.Tile([layer, second]), TypeError, "layer 'b', feature 2, geometry: 'float' object"),
             (with_feature(geometry=[(1 << 31, 0)]), OverflowError, "layer 'a', feature 0, geometry: "),
             (with_feature(geometry=[(1, 2, 3)]), TypeError, "layer 'a', feature 0, geometry: a point isn't a pair"),
-            (with_feature(geometry=[(1, 2, 3), (4,)]), TypeError, "layer 'a', feature 0, geometry: a point isn't a pair"),
-            (with_feature(kind="unknown", geometry=[1 << 32]), OverflowError, "layer 'a', feature 0, geometry: 4294967296"),
-            (with_feature(attributes={"k": 1 << 64}), OverflowError, "layer 'a', feature 0, key 'k': 18446744073709551616"),
+            (
+                with_feature(geometry=[(1, 2, 3), (4,)]),
+                TypeError,
+                "layer 'a', feature 0, geometry: a point isn't a pair",
+            ),
+            (
+                with_feature(kind="unknown", geometry=[1 << 32]),
+                OverflowError,
+                "layer 'a', feature 0, geometry: 4294967296",
+            ),
+            (
+                with_feature(attributes={"k": 1 << 64}),
+                OverflowError,
+                "layer 'a', feature 0, key 'k': 18446744073709551616",
+            ),
             (with_feature(attributes={7: 1}), TypeError, "layer 'a', feature 0, key 7: int is no text"),
-            (with_feature(attributes={"k": "\ud800"}), libmvt.NoTile, "layer 'a', feature 0, key 'k': a text isn't UTF-8"),
+            (
+                with_feature(attributes={"k": "\ud800"}),
+                libmvt.NoTile,
+                "layer 'a', feature 0, key 'k': a text isn't UTF-8",
+            ),
             (with_feature(id=-1), OverflowError, "layer 'a', feature 0, id: -1 is out of range"),
             (with_feature(id="7"), TypeError, "layer 'a', feature 0, id: 'str' object"),
             (with_feature(kind="circles"), libmvt.NoTile, "layer 'a', feature 0: 'circles' is no kind"),
-            (libmvt.Tile([dataclasses.replace(layer, extent=1 << 32)]), OverflowError, "layer 'a': 4294967296 is out of range"),
+            (
+                libmvt.Tile([dataclasses.replace(layer, extent=1 << 32)]),
+                OverflowError,
+                "layer 'a': 4294967296 is out of range",
+            ),
             (libmvt.Tile([dataclasses.replace(layer, name=b"a")]), TypeError, "layer b'a': bytes is no text"),
             (libmvt.Tile([libmvt.Foreign(-1, b"")]), OverflowError, "layer of version -1: -1 is out of range"),
         ):

@@ -80,7 +80,8 @@ static inline unsigned digit_of(char letter) { return (unsigned)(letter <= '9' ?
 /* The bytes that `digits` hexadecimal digits spell, with room for so many more. To be freed. */
 static inline uint8_t *bytes_of_digits(const char *text, size_t digits, size_t room) {
     uint8_t *bytes = (uint8_t *)calloc(digits / 2 + room + 1, 1);
-    for (size_t at = 0; at < digits / 2; ++at) bytes[at] = (uint8_t)(digit_of(text[2 * at]) << 4 | digit_of(text[2 * at + 1]));
+    for (size_t at = 0; at < digits / 2; ++at)
+        bytes[at] = (uint8_t)(digit_of(text[2 * at]) << 4 | digit_of(text[2 * at + 1]));
     return bytes;
 }
 
@@ -129,8 +130,10 @@ static inline void each_case_of(const char *path, void (*look)(const told_case *
     char *text = file_text(path), *end;
     for (char *lines = text; *lines != 0; lines = end) {
         end = strstr(lines, "\n\n");
-        if (end != NULL) end[1] = 0, end += 2;
-        else end = lines + strlen(lines);
+        if (end != NULL)
+            end[1] = 0, end += 2;
+        else
+            end = lines + strlen(lines);
         look_at(lines, look);
     }
     free(text);
@@ -156,7 +159,7 @@ static inline int run_tests(const named_test *tests, size_t count, int names, ch
     return 0;
 }
 
-#define RUN_TESTS(tests) \
+#define RUN_TESTS(tests)                                                                                               \
     int main(int names, char **name) { return run_tests(tests, sizeof tests / sizeof *tests, names, name); }
 
 #endif

@@ -39,4 +39,9 @@ def use(content: bytes) -> List[int]:
         kind: Optional[str] = libmvt.looks_like(content)
         places += [(0, end) for end in where if end is not None and kind is None]
     sizes += [len(ids), len(notes), len(text)]
-    return sizes + versions + all_versions + [first.extent, len(places), len(columns), len(tags), len(kinds), len(both), len(names), len(built)]
+    return (
+        sizes
+        + versions
+        + all_versions
+        + [first.extent, len(places), len(columns), len(tags), len(kinds), len(both), len(names), len(built)]
+    )

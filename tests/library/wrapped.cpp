@@ -13,7 +13,8 @@
 
 namespace {
 
-static_assert(std::is_nothrow_copy_constructible_v<mvt::refused> && std::is_nothrow_copy_constructible_v<mvt::no_layer>);
+static_assert(std::is_nothrow_copy_constructible_v<mvt::refused> &&
+              std::is_nothrow_copy_constructible_v<mvt::no_layer>);
 
 void require(bool holds, const char *what) {
     if (!holds) throw std::logic_error(what);
@@ -49,13 +50,15 @@ void take(mvt::byte_span input) {
     const std::span<const std::byte> part = std::as_bytes(input);
     const std::vector<std::byte> bytes(part.begin(), part.end());
     const std::string wanted = mvt::json(input).str();
-    require(mvt::json(text).str() == wanted && mvt::json(std::string_view(text)).str() == wanted, "a string is other bytes");
+    require(mvt::json(text).str() == wanted && mvt::json(std::string_view(text)).str() == wanted,
+            "a string is other bytes");
     require(mvt::json(chars).str() == wanted && mvt::json(bytes).str() == wanted, "a vector is other bytes");
     require(mvt::json({input.data(), input.size()}).str() == wanted, "a pointer and a length are other bytes");
     require(mvt::json(mvt::rewrite(text)).str() == wanted, "what a call made is other bytes");
 
     const std::string both = mvt::extract(text, {"water", "roads"}).str();
-    require(mvt::extract(text, std::vector<std::string>{"roads", "water"}).str() == both, "names in a vector are others");
+    require(mvt::extract(text, std::vector<std::string>{"roads", "water"}).str() == both,
+            "names in a vector are others");
     require(mvt::extract(text, std::vector<std::string_view>{}).empty(), "no names give layers");
     try {
         require(mvt::extract(text, {"water", "rail", "nowhere"}).empty(), "a layer that isn't there was found");
@@ -73,7 +76,8 @@ void pick(mvt::byte_span input) {
         if (layer.version != 2) continue;
         const mvt::tile one = mvt::read_layer(input, whole.text(layer.name));
         require(one.layers().size() == 1 && one.text(one.layers()[0].name) == whole.text(layer.name), "another layer");
-        require(mvt::write(one.rows()).str() == mvt::extract(input, {whole.text(layer.name)}).str(), "a layer of other features");
+        require(mvt::write(one.rows()).str() == mvt::extract(input, {whole.text(layer.name)}).str(),
+                "a layer of other features");
     }
     try {
         const mvt::tile none = mvt::read_layer(input, "nowhere");
@@ -100,7 +104,8 @@ void bound(mvt::byte_span input) {
 
 /// Rows that were made by hand are written, and stay their maker's.
 void lend() {
-    const mvt_layer layer{.version = 2, .extent = 4096, .name = {0, 1}, .features = {}, .keys = {}, .values = {}, .bytes = {}};
+    const mvt_layer layer{
+        .version = 2, .extent = 4096, .name = {0, 1}, .features = {}, .keys = {}, .values = {}, .bytes = {}};
     mvt_tile rows{};
     rows.layers = &layer, rows.layer_count = 1;
     rows.texts = reinterpret_cast<const std::uint8_t *>("a"), rows.text_len = 1;
@@ -137,7 +142,8 @@ void mix(mvt::byte_span input) {
     mvt_layer bare = one.layers().front();
     bare.keys.len = 0;
     require_error([&] { one.attributes(bare, one.features(bare).front(), ignore); }, "keys that the layer hasn't");
-    require_error([&] { static_cast<void>(*one.attributes(bare, one.features(bare).front()).begin()); }, "a range beyond the keys");
+    require_error([&] { static_cast<void>(*one.attributes(bare, one.features(bare).front()).begin()); },
+                  "a range beyond the keys");
 
     mvt::tile moved = mvt::read(input);
     const mvt_layer layer = moved.layers().front();
@@ -155,14 +161,17 @@ void mix(mvt::byte_span input) {
     require_error([&] { static_cast<void>(builder.value(none)); }, "a value's index of a null pointer");
     require_error([&] { static_cast<void>(mvt::read_layer(input, none)); }, "one layer of a null pointer");
     require_error([&] { static_cast<void>(now.layer(none)); }, "a layer of a null pointer");
-    require_error([&] { static_cast<void>(mvt::extract(input, std::vector<const char *>{none})); }, "layers of a null pointer");
+    require_error([&] { static_cast<void>(mvt::extract(input, std::vector<const char *>{none})); },
+                  "layers of a null pointer");
     require(builder.tag("k", "v").point(1, 2).finish().str() == made.str(), "what was refused changed the tile");
 }
 
 /// A refused tile is told of in words, with the layer's name and the feature's id.
 void explain() {
     // The layer `a` with a feature of id 7 whose line goes nowhere.
-    const std::string broken("\x1a\x13\x78\x02\x0a\x01" "a\x12\x0c\x08\x07\x18\x02\x22\x06\x09\x00\x00\x0a\x00\x00", 21);
+    const std::string broken("\x1a\x13\x78\x02\x0a\x01"
+                             "a\x12\x0c\x08\x07\x18\x02\x22\x06\x09\x00\x00\x0a\x00\x00",
+                             21);
     for (const std::string &of : {broken, std::string("\x1f\x8b\x08"), std::string("\x78\x9c\xff")}) {
         try {
             mvt::judge(of);
@@ -170,8 +179,10 @@ void explain() {
         } catch (const mvt::refused &why) {
             const bool packed = why.sentence().find("compressed") != std::string_view::npos;
             require(packed == (of != broken), "a tile that isn't compressed looks so");
-            require(why.layer_name() == (packed ? std::nullopt : std::optional<std::string_view>("a")), "another layer's name");
-            require(why.feature_id() == (packed ? std::nullopt : std::optional<std::uint64_t>(7)), "another feature's id");
+            require(why.layer_name() == (packed ? std::nullopt : std::optional<std::string_view>("a")),
+                    "another layer's name");
+            require(why.feature_id() == (packed ? std::nullopt : std::optional<std::uint64_t>(7)),
+                    "another feature's id");
             require(why.start() == (packed ? 0u : 19u) && why.end() == (packed ? 3u : 20u), "another place");
         }
     }
@@ -193,7 +204,9 @@ void build() {
     mvt::builder first;
     first.layer("a").feature(MVT_POINTS).point(25, 17);
     mvt::builder builder = std::move(first);
-    require(builder.finish().str() == std::string("\x1a\x11\x78\x02\x0a\x01" "a\x12\x07\x18\x01\x22\x03\x09\x32\x22\x28\x80\x20", 19),
+    require(builder.finish().str() == std::string("\x1a\x11\x78\x02\x0a\x01"
+                                                  "a\x12\x07\x18\x01\x22\x03\x09\x32\x22\x28\x80\x20",
+                                                  19),
             "the bytes of a point");
     require(builder.finish().empty(), "a builder that begins anew is empty");
 
@@ -206,15 +219,20 @@ void build() {
     const mvt::tile tile = mvt::read(made);
     const mvt_layer &layer = *tile.layer("town");
     const auto features = tile.features(layer);
-    require(layer.extent == 512 && features.size() == 3 && features[0].id == 7 && !features[1].has_id, "other features");
-    require(tile.points(tile.parts(features[0])[0]).size() == 4 && tile.parts(features[0])[0].exterior == 1, "another ring");
-    require(tile.points(tile.parts(features[1])[0])[1].y == 2 && tile.integers(features[2]).size() == 2, "another geometry");
+    require(layer.extent == 512 && features.size() == 3 && features[0].id == 7 && !features[1].has_id,
+            "other features");
+    require(tile.points(tile.parts(features[0])[0]).size() == 4 && tile.parts(features[0])[0].exterior == 1,
+            "another ring");
+    require(tile.points(tile.parts(features[1])[0])[1].y == 2 && tile.integers(features[2]).size() == 2,
+            "another geometry");
     std::vector<std::pair<std::string, mvt::value>> tags;
     for (const mvt_feature &feature : features)
-        tile.attributes(layer, feature, [&](std::string_view key, const mvt::value &it) { tags.emplace_back(key, it); });
+        tile.attributes(layer, feature,
+                        [&](std::string_view key, const mvt::value &it) { tags.emplace_back(key, it); });
     const std::vector<std::pair<std::string, mvt::value>> wanted{
-        {"name", "Mill"},        {"floors", std::uint64_t{3}}, {"high", true}, {"area", 64.5}, {"floors", std::uint64_t{3}},
-        {"below", mvt::sint_value(-1)}, {"wide", 2.5f}};
+        {"name", "Mill"}, {"floors", std::uint64_t{3}}, {"high", true},
+        {"area", 64.5},   {"floors", std::uint64_t{3}}, {"below", mvt::sint_value(-1)},
+        {"wide", 2.5f}};
     require(tags == wanted, "other attributes");
     try {
         builder.tag("no", "feature");
@@ -259,7 +277,8 @@ void range() {
     require(tile.attributes(layer, features[1]).empty(), "attributes that the feature hasn't");
     require(tile.attribute(layer, features[0], "two") == mvt::value("2"), "another value of a key");
     require(tile.attribute(layer, features[0], "three") == mvt::value(mvt::sint_value(-3)), "another number of a key");
-    require(!tile.attribute(layer, features[0], "four") && !tile.attribute(layer, features[1], "one"), "a value of no key");
+    require(!tile.attribute(layer, features[0], "four") && !tile.attribute(layer, features[1], "one"),
+            "a value of no key");
     const auto points = tile.points(tile.parts(features[0])[0]);
     require(points.size() == 2 && points[1].x == 3 && points[1].y == 4, "other points of a list");
 }
@@ -271,13 +290,19 @@ void equal() {
         builder.layer("a").feature(MVT_POINTS).tag("k", number).points({{x, 2}});
         return mvt::read(builder.finish());
     };
-    require(made(1, 1) == made(1, 1) && made(1, 1) != made(2, 1) && made(1, 1) != made(1, 2), "tiles that equal others");
+    require(made(1, 1) == made(1, 1) && made(1, 1) != made(2, 1) && made(1, 1) != made(1, 2),
+            "tiles that equal others");
     require(made(0.0, 1) != made(-0.0, 1), "numbers of other bits");
     const double none = std::numeric_limits<double>::quiet_NaN();
     require(made(none, 1) == made(none, 1) && mvt::tile() == mvt::read({}), "tiles that don't equal themselves");
     // The layer `a` with the point (25, 17), and the same with a key that no feature uses.
-    const std::string bare("\x1a\x11\x78\x02\x0a\x01" "a\x12\x07\x18\x01\x22\x03\x09\x32\x22\x28\x80\x20", 19);
-    const std::string keyed("\x1a\x14\x78\x02\x0a\x01" "a\x12\x07\x18\x01\x22\x03\x09\x32\x22\x1a\x01" "k\x28\x80\x20", 22);
+    const std::string bare("\x1a\x11\x78\x02\x0a\x01"
+                           "a\x12\x07\x18\x01\x22\x03\x09\x32\x22\x28\x80\x20",
+                           19);
+    const std::string keyed("\x1a\x14\x78\x02\x0a\x01"
+                            "a\x12\x07\x18\x01\x22\x03\x09\x32\x22\x1a\x01"
+                            "k\x28\x80\x20",
+                            22);
     require(mvt::read(bare) == mvt::read(keyed), "a key that nothing names");
 }
 
@@ -328,7 +353,8 @@ void undrawn() {
         const mvt_rows_fault fault = why.fault().value();
         require(fault.cause == MVT_ROWS_DRAWING && fault.rule == MVT_CAUSE_ZERO_SEGMENT, "the rule that a line breaks");
         require(fault.part == 1 && fault.has_point == 1 && fault.point == 2, "and where");
-        const std::string wanted = std::string("layer 0 feature 0 part 1 point 2: ") + mvt_cause_text(MVT_CAUSE_ZERO_SEGMENT);
+        const std::string wanted =
+            std::string("layer 0 feature 0 part 1 point 2: ") + mvt_cause_text(MVT_CAUSE_ZERO_SEGMENT);
         require(why.what() == wanted, "and in words");
     }
     builder.layer("a").feature(MVT_POLYGONS).ring(true).point(0, 0).point(1, 3).point(3, 1);
@@ -371,10 +397,12 @@ void remark(mvt::byte_span input) {
     const std::string odd("\x1a\x07\x78\x02\x0a\x01\x61\x12\x00\x1a\x05\x78\x02\x0a\x01\x62", 16);
     mvt::summary noted;
     noted = mvt::survey(odd);
-    require(noted.notes().size() == 1 && noted.notes()[0].kind == MVT_NOTE_NO_FEATURES && noted.notes()[0].layer == 1, "a note");
+    require(noted.notes().size() == 1 && noted.notes()[0].kind == MVT_NOTE_NO_FEATURES && noted.notes()[0].layer == 1,
+            "a note");
     const mvt::findings found = mvt::lint_rows(odd);
     for (const mvt_finding_row &row : found)
-        require(row.kind == MVT_FINDING_NO_GEOMETRY && row.layer == 0 && row.has_feature == 1 && row.feature == 0, "a finding");
+        require(row.kind == MVT_FINDING_NO_GEOMETRY && row.layer == 0 && row.has_feature == 1 && row.feature == 0,
+                "a finding");
     require(found.size() == 1, "one finding");
     try {
         static_cast<void>(mvt::survey(std::string_view("\0", 1)));
@@ -387,13 +415,15 @@ void remark(mvt::byte_span input) {
 /// What is mended: an accepted tile isn't, and the layer `a` with a line of one point twice is left without a feature.
 void mend(mvt::byte_span input) {
     const mvt::mended same = mvt::mend(input);
-    require(same.changes().empty() && std::ranges::equal(same.bytes(), mvt::rewrite(input)), "an accepted tile is changed");
+    require(same.changes().empty() && std::ranges::equal(same.bytes(), mvt::rewrite(input)),
+            "an accepted tile is changed");
     const std::string broken("\x1a\x11\x78\x02\x0a\x01\x61\x12\x0a\x18\x02\x22\x06\x09\x04\x04\x0a\x00\x00", 19);
     mvt::mended first = mvt::mend(broken);
     const mvt::mended told = std::move(first);
     require(first.changes().empty() && first.bytes().empty() && told.changes().size() == 1, "one change, of one owner");
     const mvt_change_row &change = told.changes()[0];
-    require(change.kind == MVT_CHANGE_FEATURE_LEFT_OUT && change.layer == 0 && change.feature == 0 && change.part == 0, "a change");
+    require(change.kind == MVT_CHANGE_FEATURE_LEFT_OUT && change.layer == 0 && change.feature == 0 && change.part == 0,
+            "a change");
     mvt::builder wanted;
     require(std::ranges::equal(told.bytes(), wanted.layer("a").finish()), "the mended tile");
     try {
@@ -413,11 +443,16 @@ void surround() {
     } catch (const mvt::refused &why) {
         mvt::surroundings first = mvt::around(tile, why);
         const mvt::surroundings told = std::move(first);
-        require(first.steps().empty() && told.layer()->body == 2 && told.feature()->start == 7 && told.message().body == 9, "bounds");
-        require(told.list() == 4 && told.kind() == 2 && !told.extent() && told.keys().empty() && told.tags().empty(), "numbers");
-        require(told.geometry()[why.at()].start == why.start() && told.place().start == *why.start(), "the integer of the fault");
+        require(first.steps().empty() && told.layer()->body == 2 && told.feature()->start == 7 &&
+                    told.message().body == 9,
+                "bounds");
+        require(told.list() == 4 && told.kind() == 2 && !told.extent() && told.keys().empty() && told.tags().empty(),
+                "numbers");
+        require(told.geometry()[why.at()].start == why.start() && told.place().start == *why.start(),
+                "the integer of the fault");
         require(told.steps()[2].role == MVT_ROLE_MOVE_Y && told.steps()[2].x == 2 && told.steps()[2].y == 2, "a point");
-        require(told.fields().size() == 2 && told.fields()[1].number == 4 && told.fields()[1].bounds.end == 20, "fields");
+        require(told.fields().size() == 2 && told.fields()[1].number == 4 && told.fields()[1].bounds.end == 20,
+                "fields");
     }
 }
 

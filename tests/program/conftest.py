@@ -30,7 +30,9 @@ def run(mvt):
     def answered(*words, tile=b"", **how):
         if "stdin" not in how:
             how["input"] = tile
-        done = subprocess.run([mvt, *map(str, words)], stdout=subprocess.PIPE, stderr=subprocess.PIPE, timeout=300, **how)
+        done = subprocess.run(
+            [mvt, *map(str, words)], stdout=subprocess.PIPE, stderr=subprocess.PIPE, timeout=300, **how
+        )
         return Answer(done.returncode, done.stdout, done.stderr.decode())
 
     return answered

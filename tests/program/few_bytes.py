@@ -45,9 +45,7 @@ TWO = shown(layer(feature('"points":[[5,7],[3,2]]')))
 NOTHING = shown(layer(feature('"unknown":[]')))
 ONE_IN_POLYGON = shown(
     layer(
-        feature(
-            '"polygons":[{"outer":[[0,0],[10,0],[10,10],[0,10]],"rest":[[[2,2],[2,8],[8,8]],[[1,1],[2,2],[3,3]]]}]'
-        )
+        feature('"polygons":[{"outer":[[0,0],[10,0],[10,10],[0,10]],"rest":[[[2,2],[2,8],[8,8]],[[1,1],[2,2],[3,3]]]}]')
     )
 )
 RINGS = "1A2B 7802 0A0161 12211803 221D0900001A1400001413000F09040F12000C0C000F090D0D12020202020F 288020"

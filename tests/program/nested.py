@@ -74,8 +74,12 @@ def holds(outer, ring):
 
 def holders_of(rings):
     """Of each ring with area those that hold it, from the least to the largest."""
-    solid = sorted((index for index, ring in enumerate(rings) if area(ring)), key=lambda it: (abs(area(rings[it])), -it))
-    found = {it: [other for other in solid[place + 1 :] if holds(rings[other], rings[it])] for place, it in enumerate(solid)}
+    solid = sorted(
+        (index for index, ring in enumerate(rings) if area(ring)), key=lambda it: (abs(area(rings[it])), -it)
+    )
+    found = {
+        it: [other for other in solid[place + 1 :] if holds(rings[other], rings[it])] for place, it in enumerate(solid)
+    }
     for others in found.values():
         if others and len(found[others[0]]) + 1 != len(others):
             raise Crossing

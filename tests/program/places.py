@@ -231,7 +231,11 @@ def looks_like(tile):
 def text_like(tile):
     """Which text an input is, by its first 512 bytes."""
     start = tile[:512]
-    if len(tile) < 4 or not re.fullmatch(rb"[\t\n\r\x20-\x7e\x80-\xff]*", start) or not re.search(b"[A-Za-z]{2}", start):
+    if (
+        len(tile) < 4
+        or not re.fullmatch(rb"[\t\n\r\x20-\x7e\x80-\xff]*", start)
+        or not re.search(b"[A-Za-z]{2}", start)
+    ):
         return None
     bare = start.removeprefix(b"\xef\xbb\xbf").lstrip(b"\t\n\r ")
     kinds = (("Xml", b"<?xml"), ("Html", b"<"), ("Json", b"{"), ("Json", b"["))
@@ -442,7 +446,9 @@ NO_TILES = {
     "brotli of 70,000 bytes": bytes.fromhex("5f6f11815f522c6c").ljust(2338, b"\0"),
     "brotli with a window of 16 bits": bytes.fromhex("ea2d22f04b8a858d").ljust(2337, b"\0"),
     "brotli with a window of 10 bits": bytes.fromhex("21fcffc32f291636").ljust(14_580, b"\0"),
-    "brotli of point.mvt, which is stored": bytes.fromhex("0b09801a1178020a0161120a08071801220409322229").ljust(23, b"\x03"),
+    "brotli of point.mvt, which is stored": bytes.fromhex("0b09801a1178020a0161120a08071801220409322229").ljust(
+        23, b"\x03"
+    ),
     "nothing that is known": b"\xff" * 40,
 }
 
@@ -455,7 +461,9 @@ def heads(count):
     for _ in range(count):
         head = b"".join(chance.choice(marks) for _ in range(chance.randrange(3)))
         rest = bytes(chance.choice(b"aZ \n<{[5;\xc3\x1a\0") for _ in range(chance.randrange(600)))
-        yield head[: chance.randint(0, len(head))] + (chance.randbytes(chance.randrange(60)) if chance.random() < 0.5 else rest)
+        yield head[: chance.randint(0, len(head))] + (
+            chance.randbytes(chance.randrange(60)) if chance.random() < 0.5 else rest
+        )
 
 
 def in_many_pieces(count):

@@ -46,7 +46,14 @@ def test_names_that_terminals_obey(run):
     name = "\x1b[2J\x7f\x80\u009b2J\u009f\u00a0\u061c\u200d\u200e\u202a\u202e\u2066\u2069\u206a\u00e9"
     line = field(3, 2) + field(4, bytes([9, 4, 4, 10, 0, 0]))
     tile = field(3, field(15, 2) + field(1, name.encode()) + field(2, line))
-    told = r"\u001b[2J\u007f\u0080\u009b2J\u009f" + "\u00a0" + r"\u061c" + "\u200d" + r"\u200e\u202a\u202e\u2066\u2069" + "\u206a\u00e9"
+    told = (
+        r"\u001b[2J\u007f\u0080\u009b2J\u009f"
+        + "\u00a0"
+        + r"\u061c"
+        + "\u200d"
+        + r"\u200e\u202a\u202e\u2066\u2069"
+        + "\u206a\u00e9"
+    )
     assert run("explain", tile=tile).output.decode().split("\n")[0] == f'layer 0 "{told}", feature 0'
     assert failure(run, tile) == (None, "ZeroSegment")
 

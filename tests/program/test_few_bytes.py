@@ -8,7 +8,8 @@ import pytest
 from few_bytes import ONE_POINT, REPORT, UNREAD, encoded, octets
 
 RUNS = [
-    pytest.param(words, tile, wanted, id=f"{number}-{'-'.join(words)}") for number, (words, tile, wanted) in enumerate(few_bytes.runs())
+    pytest.param(words, tile, wanted, id=f"{number}-{'-'.join(words)}")
+    for number, (words, tile, wanted) in enumerate(few_bytes.runs())
 ]
 
 

@@ -48,9 +48,7 @@ def runs():
     yield ["draw"], NAMED, ord("a"), 0, (0, drawn, "")
 
 
-RUNS = [
-    pytest.param(*run, id=f"{run[0][0]}-{run[1][:8].replace(' ', '')}-{run[3]}-{run[4][0]}") for run in runs()
-]
+RUNS = [pytest.param(*run, id=f"{run[0][0]}-{run[1][:8].replace(' ', '')}-{run[3]}-{run[4][0]}") for run in runs()]
 
 
 @pytest.mark.parametrize("words, front, filler, beyond, wanted", RUNS)

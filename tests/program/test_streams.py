@@ -26,7 +26,9 @@ def full():
         yield device
 
 
-@pytest.mark.parametrize("words", [[b"\xff"], [b"check", b"\xff"], [b"extract", b"a", b"\xc3("], [b"extract", b"\xed\xa0\x80"]])
+@pytest.mark.parametrize(
+    "words", [[b"\xff"], [b"check", b"\xff"], [b"extract", b"a", b"\xc3("], [b"extract", b"\xed\xa0\x80"]]
+)
 def test_not_utf8(mvt, words):
     """Any argument, also a name of a layer, refuses the line before anything is read."""
     done = subprocess.run([mvt, *words], input=POINT, capture_output=True)
@@ -44,7 +46,9 @@ def test_full(mvt, full, command):
     assert (done.returncode, done.stderr) == (3, b"mvt: write failed\n")
 
 
-@pytest.mark.parametrize("words, tile, status", [(["check"], b"\x1b", 1), (["frob"], POINT, 2)], ids=["a tile", "a line"])
+@pytest.mark.parametrize(
+    "words, tile, status", [(["check"], b"\x1b", 1), (["frob"], POINT, 2)], ids=["a tile", "a line"]
+)
 def test_nowhere_to_tell_what_is_refused(mvt, full, words, tile, status):
     """A fault of the error stream is ignored: the status is that of the tile, of the line, or of the input."""
     done = subprocess.run([mvt, *words], input=tile, stdout=subprocess.PIPE, stderr=full)

@@ -64,7 +64,9 @@ WORDS = {
 def said(program, words, stdin=b"", is_terminal=True, folder=None):
     """The status, the output, and the lines of errors, over a terminal or a pipe."""
     ours, theirs = pty.openpty() if is_terminal else os.pipe()
-    done = subprocess.Popen([program, *map(str, words)], stdin=subprocess.PIPE, stdout=subprocess.PIPE, stderr=theirs, cwd=folder)
+    done = subprocess.Popen(
+        [program, *map(str, words)], stdin=subprocess.PIPE, stdout=subprocess.PIPE, stderr=theirs, cwd=folder
+    )
     os.close(theirs)
     out, _ = done.communicate(stdin, timeout=60)
     lines = b""
@@ -91,7 +93,18 @@ def adds_nothing(program, words, stdin=b""):
 @pytest.mark.parametrize("content, hint", LOOKS.items(), ids=[hint.split(":")[0] for hint in LOOKS.values()])
 def test_what_an_input_looks_like(mvt, tmp_path, content, hint):
     """For each command over standard input, and over files."""
-    for words in (["check"], ["explain"], ["lint"], ["show"], ["draw"], ["fields"], ["rewrite"], ["mend"], ["extract", "a"], []):
+    for words in (
+        ["check"],
+        ["explain"],
+        ["lint"],
+        ["show"],
+        ["draw"],
+        ["fields"],
+        ["rewrite"],
+        ["mend"],
+        ["extract", "a"],
+        [],
+    ):
         adds(mvt, words, content, hint.format("FILE"))
     path = tmp_path / "file"
     path.write_bytes(content)
@@ -144,7 +157,9 @@ def test_why_a_file_is_unread(mvt, tmp_path):
         adds(mvt, ["explain", locked], b"", f"{locked}: no permission to read it")
 
 
-@pytest.mark.parametrize("words, stdin", [(["check"], GOOD), (["check"], b"\x1b"), (["chek"], b""), (["--version"], b"")])
+@pytest.mark.parametrize(
+    "words, stdin", [(["check"], GOOD), (["check"], b"\x1b"), (["chek"], b""), (["--version"], b"")]
+)
 def test_nothing_odd(mvt, words, stdin):
     adds_nothing(mvt, words, stdin)
 

@@ -90,7 +90,9 @@ def test_case(told, case):
     assert case.tile == told[1][case.name]
 
 
-@pytest.mark.parametrize("case", [case for case in CASES if case.name.partition(".")[0] in ("gdal", "postgis")], ids=lambda it: it.name)
+@pytest.mark.parametrize(
+    "case", [case for case in CASES if case.name.partition(".")[0] in ("gdal", "postgis")], ids=lambda it: it.name
+)
 def test_case_of_other_programs(case):
     """What the independent reading makes of the tile that other programs wrote."""
     tile, _, is_canonical = case.name.partition(".")
@@ -114,7 +116,9 @@ def test_broken_case(name, line):
     assert case.said["fault"] == f"{line}\n"
     place = places.find(case.tile[: places.LIMIT + 1], places.fault_of(case.said["fault"]))
     assert case.said["place"] == f"{place.start} {place.end}\n"
-    assert not places.failure(case.tile, case.said["fault"], case.said["explain"].split("\n")[:-1], SENTENCES, "mended" in case.said)
+    assert not places.failure(
+        case.tile, case.said["fault"], case.said["explain"].split("\n")[:-1], SENTENCES, "mended" in case.said
+    )
     mended = {"20-ZeroSegment": canonical([]), "22-FirstRing": canonical([TRIANGLE])}
     assert ("mended" in case.said) == (name in mended)
     if name in mended:

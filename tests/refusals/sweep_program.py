@@ -113,7 +113,10 @@ def sweep(mvt, words, canonical, shim, written):
             continue
         wanted += 1
         if (status, output, errors) != (4, b"", b"mvt: out of memory\n"):
-            return "allocation %d refused: status %d, %d bytes, %r" % (refused, status, len(output), errors), refused + 1
+            return (
+                "allocation %d refused: status %d, %d bytes, %r" % (refused, status, len(output), errors),
+                refused + 1,
+            )
     return None if wanted else "no run wanted memory", count + 1
 
 
@@ -140,7 +143,11 @@ def main():
     ]
     point = bytes.fromhex("1A1178020A0161120718012203093222288020")
     swept = [(words, canonical, written) for words, written in commands]
-    swept += [([], point, b"ok layers 1 features 1 canonical yes\n"), (["frob"], point, None), (["extract"], point, None)]
+    swept += [
+        ([], point, b"ok layers 1 features 1 canonical yes\n"),
+        (["frob"], point, None),
+        (["extract"], point, None),
+    ]
     passed = failed = 0
     for words, tile_bytes, written in swept:
         line = " ".join(["mvt", *("FILE" if word == file else word for word in words)])

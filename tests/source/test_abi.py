@@ -35,7 +35,11 @@ def test_mvt_h():
         ("MVT_CAUSE_TRUNCATED = 1,", "MVT_CAUSE_TRUNCATED = 29,", "number MVT_CAUSE_TRUNCATED 1"),
         ("} mvt_rows_fault;", "    uint32_t more;\n} mvt_rows_fault;", "structure mvt_rows_fault 48"),
         ("    int32_t x, y;\n} mvt_point;", "    int32_t y, x;\n} mvt_point;", "field mvt_point 0 x int32_t"),
-        ("mvt_status mvt_judge(const uint8_t *bytes, size_t", "mvt_status mvt_judge(const uint8_t *bytes, uint64_t", "call mvt_judge"),
+        (
+            "mvt_status mvt_judge(const uint8_t *bytes, size_t",
+            "mvt_status mvt_judge(const uint8_t *bytes, uint64_t",
+            "call mvt_judge",
+        ),
         ("mvt_status mvt_judge(", "int mvt_judge(", "call mvt_judge"),
         ("mvt_status mvt_judge(", "mvt_status mvt_judged(", "call mvt_judge"),
     ],
@@ -57,10 +61,12 @@ def test_its_parts():
     text = re.sub(r"/\*.*?\*/", "", TEXT, flags=re.S)
     calls = re.findall(r"^[a-z].*\b(mvt_[a-z0-9_]+)\([^;{]*\);", text, re.M)
     assert {line.split()[1] for line in LISTED if line.startswith("call ")} == set(calls) and len(calls) > 50
-    assert {line.split()[1] for line in LISTED if line.startswith("structure ")} == set(re.findall(r"^\} (mvt_\w+);", text, re.M)) - set(
-        HEADER.enums
+    assert {line.split()[1] for line in LISTED if line.startswith("structure ")} == set(
+        re.findall(r"^\} (mvt_\w+);", text, re.M)
+    ) - set(HEADER.enums)
+    assert {line.split()[1] for line in LISTED if line.startswith("number ")} == set(
+        re.findall(r"\b(MVT_\w+) = \d", text)
     )
-    assert {line.split()[1] for line in LISTED if line.startswith("number ")} == set(re.findall(r"\b(MVT_\w+) = \d", text))
 
 
 def test_lines_are_only_added():
@@ -69,5 +75,7 @@ def test_lines_are_only_added():
     def git(*words):
         return subprocess.run(["git", "-C", TOP, *words], capture_output=True, text=True).stdout
 
-    gone = re.findall(r"^-(?!-)(.*)$", git("log", "-p", "--format=", "--", FILE) + git("diff", "HEAD", "--", FILE), re.M)
+    gone = re.findall(
+        r"^-(?!-)(.*)$", git("log", "-p", "--format=", "--", FILE) + git("diff", "HEAD", "--", FILE), re.M
+    )
     assert [line for line in gone if line and not line.startswith("#")] == []

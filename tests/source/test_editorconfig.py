@@ -4,7 +4,24 @@ import subprocess
 from pathlib import Path
 
 TOP = Path(__file__).resolve().parents[2]
-KINDS = {".c", ".cpp", ".css", ".go", ".h", ".hpp", ".html", ".js", ".md", ".mjs", ".py", ".rs", ".rt", ".toml", ".yml", ""}
+KINDS = {
+    ".c",
+    ".cpp",
+    ".css",
+    ".go",
+    ".h",
+    ".hpp",
+    ".html",
+    ".js",
+    ".md",
+    ".mjs",
+    ".py",
+    ".rs",
+    ".rt",
+    ".toml",
+    ".yml",
+    "",
+}
 # Where the bytes are somebody else's.
 ELSEWHERE = ("evidence/", "fixtures/", "crates/mvt_cli/std", "LICENSE-")
 TABS = (".go", "rules")

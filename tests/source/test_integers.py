@@ -18,6 +18,8 @@ def test_no_other_walk():
         if NAMES.search(path.read_text())
     }
     decided = next(
-        line for line in (TOP / "docs/DECISIONS.md").read_text().splitlines() if "beside mvt_wire and mvt_geometry turn integers" in line
+        line
+        for line in (TOP / "docs/DECISIONS.md").read_text().splitlines()
+        if "beside mvt_wire and mvt_geometry turn integers" in line
     )
     assert found == set(re.findall(r"`(mvt_\w+/src/\w+\.rt)`", decided)) and len(found) == 3

@@ -14,7 +14,11 @@ def named():
     files = subprocess.run(["git", "ls-files", "-z"], cwd=TOP, capture_output=True, text=True).stdout.split("\0")
     for name in filter(None, files):
         path = TOP / name
-        if path.suffix in ("", ".md", ".toml", ".py", ".go", ".json") and path.is_file() and not name.startswith(("crates/", "tests/source")):
+        if (
+            path.suffix in ("", ".md", ".toml", ".py", ".go", ".json")
+            and path.is_file()
+            and not name.startswith(("crates/", "tests/source"))
+        ):
             if HOST.search(path.read_text(errors="replace")):
                 yield name
 
@@ -24,6 +28,8 @@ def test_one_file():
 
 
 def test_what_packaging_reads():
-    names = dict(line.split("=", 1) for line in (TOP / "packaging/names").read_text().splitlines() if not line.startswith("#"))
+    names = dict(
+        line.split("=", 1) for line in (TOP / "packaging/names").read_text().splitlines() if not line.startswith("#")
+    )
     assert set(names) == {"repository", "maintainer", "go_module"}
     assert (TOP / "library/go/go.mod").read_text().startswith("module ")

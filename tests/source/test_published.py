@@ -10,26 +10,37 @@ import pytest
 
 TOP = Path(__file__).resolve().parents[2]
 MODULE = TOP / "library/python/libmvt"
-NAMES = dict(line.split("=", 1) for line in (TOP / "packaging/names").read_text().splitlines() if not line.startswith("#"))
+NAMES = dict(
+    line.split("=", 1) for line in (TOP / "packaging/names").read_text().splitlines() if not line.startswith("#")
+)
 # Files of C and C++ have endings that look like names in a module.
 ATTRIBUTE = r"(?<![\w./-])mvt\.(?!(?:h|hpp|c|pc|o|bc|xml|\d|codec)\b)[A-Za-z_]"
 
 
 def files(*endings):
     told = subprocess.run(["git", "ls-files", "-z"], cwd=TOP, capture_output=True, text=True).stdout.split("\0")
-    return [name for name in told if name.endswith(endings) and not name.startswith(("crates/", "tests/source/")) and (TOP / name).is_file()]
+    return [
+        name
+        for name in told
+        if name.endswith(endings) and not name.startswith(("crates/", "tests/source/")) and (TOP / name).is_file()
+    ]
 
 
 def test_no_other_name_in_python():
     """`mvt` is another package on PyPI."""
     former = re.compile(rf"^\s*(?:>>> )?(?:import mvt\b|from mvt[. ])|{ATTRIBUTE}", re.M)
     assert [name for name in files(".py", ".pyi", ".md") if former.search((TOP / name).read_text())] == []
-    assert re.search(r'^packages = \["libmvt", "libmvt\.geojson"\]$', (TOP / "library/python/pyproject.toml").read_text(), re.M)
+    assert re.search(
+        r'^packages = \["libmvt", "libmvt\.geojson"\]$', (TOP / "library/python/pyproject.toml").read_text(), re.M
+    )
 
 
 def test_the_crates():
     """`mvt` is another crate on crates.io."""
-    told = [re.search(r'^name = "(.*)"$', path.read_text(), re.M)[1] for path in sorted(TOP.glob("library/rust/*/Cargo.toml"))]
+    told = [
+        re.search(r'^name = "(.*)"$', path.read_text(), re.M)[1]
+        for path in sorted(TOP.glob("library/rust/*/Cargo.toml"))
+    ]
     assert told == ["libmvt", "libmvt-sys"]
     assert [name for name in files(".rs") if re.search(r"(?<![\w:])mvt(_sys)?::", (TOP / name).read_text())] == []
 
@@ -39,7 +50,11 @@ def test_the_go_module():
     path = NAMES["go_module"]
     assert (TOP / "library/go/go.mod").read_text().startswith(f"module {path}\n")
     package = path.rpartition("/")[2]
-    own = {re.search(r"^package (\w+)$", (TOP / name).read_text(), re.M)[1] for name in files(".go") if re.fullmatch(r"library/go/\w+\.go", name)}
+    own = {
+        re.search(r"^package (\w+)$", (TOP / name).read_text(), re.M)[1]
+        for name in files(".go")
+        if re.fullmatch(r"library/go/\w+\.go", name)
+    }
     assert own == {package, f"{package}_test"}
     host = re.escape(path.partition("/")[0])
     for name in files(".go", ".mod", ".md"):

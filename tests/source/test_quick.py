@@ -39,7 +39,11 @@ def test_a_test_that_fails(tmp_path):
 
 def test_a_crate_that_does_not_compile(tmp_path):
     status, lines = quick(tmp_path, "error: no such name", 1, "mvt_base")
-    assert status == 1 and lines == ["error: no such name", "mvt_base: its tests ... FAILED", "quick: 0 passed, 1 failed, 0 skipped"]
+    assert status == 1 and lines == [
+        "error: no such name",
+        "mvt_base: its tests ... FAILED",
+        "quick: 0 passed, 1 failed, 0 skipped",
+    ]
 
 
 def test_cases_of_the_program(tmp_path):

@@ -28,13 +28,18 @@ def test_one_version(name):
 
 
 def grep(*words):
-    return subprocess.run(["git", "grep", *words, "--", ":!crates/*/proofs/*"], cwd=TOP, capture_output=True, text=True).stdout.splitlines()
+    return subprocess.run(
+        ["git", "grep", *words, "--", ":!crates/*/proofs/*"], cwd=TOP, capture_output=True, text=True
+    ).stdout.splitlines()
 
 
 def test_nothing_else_says_it():
     """No other file has the version, and where one names the shared library or its package, it has this series."""
     assert set(grep("-lwF", version.VERSION)) <= {*version.PLACES}
-    assert set(grep("-ohE", r"\blibmvt(\.so\.)?[0-9]+\.[0-9]+")) <= {f"libmvt.so.{version.SERIES}", f"libmvt{version.SERIES}"}
+    assert set(grep("-ohE", r"\blibmvt(\.so\.)?[0-9]+\.[0-9]+")) <= {
+        f"libmvt.so.{version.SERIES}",
+        f"libmvt{version.SERIES}",
+    }
 
 
 @pytest.fixture

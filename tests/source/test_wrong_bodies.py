@@ -53,7 +53,9 @@ class Repository:
         (self.root / f"crates/{crate}/{name}.edit").write_text(f"file: src/lib.rt\nold: 0\nnew: {new}\n")
 
     def git(self, *words):
-        done = subprocess.run(["git", *words], cwd=self.root, check=True, capture_output=True, text=True, env={**os.environ, **AT})
+        done = subprocess.run(
+            ["git", *words], cwd=self.root, check=True, capture_output=True, text=True, env={**os.environ, **AT}
+        )
         return done.stdout.strip()
 
     def commit(self, is_third):
@@ -67,7 +69,9 @@ class Repository:
         """Notes that the bodies of each crate were refused at this commit."""
         head = self.git("rev-parse", "HEAD")
         (self.root / "tests").mkdir()
-        (self.root / "tests/wrong_bodies.passed").write_text("".join(f"{crate} {head} 6\n" for crate in ("begun", "first", "second")))
+        (self.root / "tests/wrong_bodies.passed").write_text(
+            "".join(f"{crate} {head} 6\n" for crate in ("begun", "first", "second"))
+        )
 
     def laid(self, *words):
         """How many are laid, by crate."""

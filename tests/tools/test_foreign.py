@@ -11,29 +11,75 @@ from hypothesis import strategies as make
 from mvt_tools import foreign
 
 TOOLS = Path(__file__).resolve().parents[2] / "tools"
-HUGE = [10**400, -(10**400), 1 << 64, -(1 << 64), math.inf, -math.inf, math.nan, 1e308, "9e999", "-9e999", "nan", "inf", "9" * 5000, "1_0", "٣"]
+HUGE = [
+    10**400,
+    -(10**400),
+    1 << 64,
+    -(1 << 64),
+    math.inf,
+    -math.inf,
+    math.nan,
+    1e308,
+    "9e999",
+    "-9e999",
+    "nan",
+    "inf",
+    "9" * 5000,
+    "1_0",
+    "٣",
+]
 ANY = make.recursive(
-    make.none() | make.booleans() | make.integers() | make.floats() | make.text(max_size=20) | make.binary(max_size=5) | make.sampled_from(HUGE),
+    make.none()
+    | make.booleans()
+    | make.integers()
+    | make.floats()
+    | make.text(max_size=20)
+    | make.binary(max_size=5)
+    | make.sampled_from(HUGE),
     lambda inner: make.lists(inner, max_size=5) | make.dictionaries(make.text(max_size=3), inner, max_size=3),
     max_leaves=6,
 )
 
 
-@pytest.mark.parametrize("value, wanted", [(5, 5.0), (0.5, 0.5), ("-1e3", -1000.0), (" 7 ", 7.0), (True, None), (None, None), ("", None), ([1], None)])
+@pytest.mark.parametrize(
+    "value, wanted",
+    [(5, 5.0), (0.5, 0.5), ("-1e3", -1000.0), (" 7 ", 7.0), (True, None), (None, None), ("", None), ([1], None)],
+)
 def test_numbers(value, wanted):
     assert foreign.number(value) == wanted
 
 
 @pytest.mark.parametrize(
     "value, wanted",
-    [(5, 5), (5.0, 5), ("5", 5), ("05", 5), ("-3", -3), (99, 99), (100, None), (-4, None), (0.5, None), ("5.0", None), ("", None),
-     (" 5", None), ("+5", None), (True, None), (None, None), ([5], None), (b"5", None)],
+    [
+        (5, 5),
+        (5.0, 5),
+        ("5", 5),
+        ("05", 5),
+        ("-3", -3),
+        (99, 99),
+        (100, None),
+        (-4, None),
+        (0.5, None),
+        ("5.0", None),
+        ("", None),
+        (" 5", None),
+        ("+5", None),
+        (True, None),
+        (None, None),
+        ([5], None),
+        (b"5", None),
+    ],
 )
 def test_whole_numbers(value, wanted):
     assert foreign.whole(value, -3, 99) == wanted
 
 
-@pytest.mark.parametrize("value", [each for each in HUGE if each not in (1 << 64, -(1 << 64), 1e308, -1e308)], ids=lambda value: ascii(value)[:20])
+@pytest.mark.parametrize(
+    "value",
+    [each for each in HUGE if each not in (1 << 64, -(1 << 64), 1e308, -1e308)],
+    ids=lambda value: ascii(value)[:20],
+)
 def test_what_is_no_number(value):
     assert foreign.whole(value, -(1 << 63), 1 << 63) is None
     if value not in ("1_0", "٣"):  # which Python spells so
@@ -45,7 +91,23 @@ def test_bounds(given):
     assert foreign.degrees(given) == (1, 2, 3, 4)
 
 
-@pytest.mark.parametrize("given", ["", "1,2,3", "1,2,3,4,5", [1, 2, 3], [1, 2, 3, 4, 5], ["1", 2, 3, 4], [1, 2, 3, None], {}, 5, None, "1,2,3,nan", [1, 2, 3, 10**400]])
+@pytest.mark.parametrize(
+    "given",
+    [
+        "",
+        "1,2,3",
+        "1,2,3,4,5",
+        [1, 2, 3],
+        [1, 2, 3, 4, 5],
+        ["1", 2, 3, 4],
+        [1, 2, 3, None],
+        {},
+        5,
+        None,
+        "1,2,3,nan",
+        [1, 2, 3, 10**400],
+    ],
+)
 def test_what_is_no_bounds(given):
     assert foreign.degrees(given) is None
 
@@ -62,7 +124,11 @@ def test_anything_is_a_number_or_none(value, low, high):
 
 
 @settings(max_examples=500, deadline=None)
-@given(make.binary(max_size=50) | make.text(max_size=50) | make.sampled_from(["[" * 100_000, '{"a":' * 100_000, "9" * 5000, "1e400", b"\xff\xfe"]))
+@given(
+    make.binary(max_size=50)
+    | make.text(max_size=50)
+    | make.sampled_from(["[" * 100_000, '{"a":' * 100_000, "9" * 5000, "1e400", b"\xff\xfe"])
+)
 def test_anything_is_json_or_a_value_error(text):
     try:
         foreign.parsed(text)
@@ -117,7 +183,14 @@ def calls(source):
 
 def test_the_calls_that_are_found():
     lines = ["int(a)", "map(float, a)", "sorted(a, key=int)", "os.pread(a, 1, 2)", "json.loads(a)", "a.b().fetchall()"]
-    others = ["isinstance(a, (int, float))", "isinstance(a, int)", "x: int = a", "pickle.loads(a)", "int.from_bytes(a)", "type(a) is int"]
+    others = [
+        "isinstance(a, (int, float))",
+        "isinstance(a, int)",
+        "x: int = a",
+        "pickle.loads(a)",
+        "int.from_bytes(a)",
+        "type(a) is int",
+    ]
     assert list(calls("\n".join(lines + others))) == list(range(1, len(lines) + 1))
 
 

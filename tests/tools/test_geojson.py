@@ -53,7 +53,16 @@ def degrees(x, y, extent=4096, place=PLACE):
     return (left + x / extent) / side * 360 - 180, math.degrees(latitude)
 
 
-NO_PLACES = [(31, 0, 0), (-1, 0, 0), (0, "0", 0), (0, 10**400, 0), (0, 0, -(10**400)), (0, 1 << 63, 0), (0.5, 0, 0), (0, 0, None)]
+NO_PLACES = [
+    (31, 0, 0),
+    (-1, 0, 0),
+    (0, "0", 0),
+    (0, 10**400, 0),
+    (0, 0, -(10**400)),
+    (0, 1 << 63, 0),
+    (0.5, 0, 0),
+    (0, 0, None),
+]
 
 
 class TestToGeojson:
@@ -73,7 +82,9 @@ class TestToGeojson:
         [made] = libmvt.to_geojson(tile, *PLACE)["features"]
         wanted = [[round(each, 7) for each in degrees(*point)] for point in ((0, 0), (4096, 4096), (17, -5))]
         assert made == {
-            "type": "Feature", "properties": {}, "layer": "a",
+            "type": "Feature",
+            "properties": {},
+            "layer": "a",
             "geometry": {"type": "MultiPoint", "coordinates": wanted},
         }
 
@@ -165,7 +176,12 @@ class TestInterface:
 
 
 _POINTS = make.tuples(make.integers(0, 4096), make.integers(0, 4096))
-_VALUES = make.text(max_size=5) | make.booleans() | make.integers(0, (1 << 64) - 1) | make.floats(allow_nan=False, allow_infinity=False)
+_VALUES = (
+    make.text(max_size=5)
+    | make.booleans()
+    | make.integers(0, (1 << 64) - 1)
+    | make.floats(allow_nan=False, allow_infinity=False)
+)
 _ATTRIBUTES = make.dictionaries(make.text(max_size=3), _VALUES, max_size=3)
 _IDS = make.none() | make.integers(0, (1 << 64) - 1)
 
@@ -202,7 +218,9 @@ _GEOMETRIES = make.recursive(
     lambda inner: make.builds(dict, type=make.just("GeometryCollection"), geometries=make.lists(inner, max_size=3)),
     max_leaves=4,
 )
-_PROPERTIES = make.none() | make.dictionaries(make.text(), make.none() | _VALUES | make.lists(make.integers()), max_size=3)
+_PROPERTIES = make.none() | make.dictionaries(
+    make.text(), make.none() | _VALUES | make.lists(make.integers()), max_size=3
+)
 _OBJECTS = make.lists(
     make.builds(dict, type=make.just("Feature"), id=_IDS | make.text(), properties=_PROPERTIES, geometry=_GEOMETRIES),
     max_size=4,
@@ -210,11 +228,27 @@ _OBJECTS = make.lists(
 
 
 NO_GEOJSON = [
-    {"type": "Circle"}, {"type": "FeatureCollection"}, {"type": "Point", "coordinates": [1]}, {}, [5],
-    {"type": "Point", "coordinates": [math.nan, 0]}, {"type": "Polygon", "coordinates": [1]},
-    {"type": "LineString", "coordinates": None}, {"type": "GeometryCollection", "geometries": 5},
-    None, 5, True, 0.5, "", "{}", b"{}", '{"type": "Point", "coordinates": [1, 2]}',
-    {"type": ["Point"], "coordinates": [1, 2]}, {"type": {"a": 1}}, {"type": None}, {"type": 5},
+    {"type": "Circle"},
+    {"type": "FeatureCollection"},
+    {"type": "Point", "coordinates": [1]},
+    {},
+    [5],
+    {"type": "Point", "coordinates": [math.nan, 0]},
+    {"type": "Polygon", "coordinates": [1]},
+    {"type": "LineString", "coordinates": None},
+    {"type": "GeometryCollection", "geometries": 5},
+    None,
+    5,
+    True,
+    0.5,
+    "",
+    "{}",
+    b"{}",
+    '{"type": "Point", "coordinates": [1, 2]}',
+    {"type": ["Point"], "coordinates": [1, 2]},
+    {"type": {"a": 1}},
+    {"type": None},
+    {"type": 5},
     *(
         {"type": "Feature", "properties": properties, "geometry": {"type": "Point", "coordinates": [1, 2]}}
         for properties in (5, True, "abc", [1], {"a": {(1, 2): 3}})
@@ -223,22 +257,65 @@ NO_GEOJSON = [
         {"type": kind, "coordinates": coordinates}
         for kind in ("Point", "MultiPoint", "LineString", "MultiLineString", "Polygon", "MultiPolygon")
         for coordinates in (
-            "12", {"12": 1, "34": 2}, {"x": 1}, None, 5, True, [True, False], [["1", "2"]], ["12", "34"], ["1", "2"],
-            [{"x": 1, "y": 2}], [[[{"0": 1}]]], [None, None], [[None, 1]], [[[[[1]]]]], [[1, 2], 5], b"12", [b"12"], [1j, 1j],
+            "12",
+            {"12": 1, "34": 2},
+            {"x": 1},
+            None,
+            5,
+            True,
+            [True, False],
+            [["1", "2"]],
+            ["12", "34"],
+            ["1", "2"],
+            [{"x": 1, "y": 2}],
+            [[[{"0": 1}]]],
+            [None, None],
+            [[None, 1]],
+            [[[[[1]]]]],
+            [[1, 2], 5],
+            b"12",
+            [b"12"],
+            [1j, 1j],
         )
     ),
 ]
 
 # JSON of the words and the numbers that GeoJSON has, and of those that it hasn't.
 _WORDS = make.sampled_from(
-    ["type", "coordinates", "features", "geometry", "geometries", "properties", "id", "Feature", "FeatureCollection", "Point",
-     "MultiPoint", "LineString", "MultiLineString", "Polygon", "MultiPolygon", "GeometryCollection", "12", "", "\ud800"]
+    [
+        "type",
+        "coordinates",
+        "features",
+        "geometry",
+        "geometries",
+        "properties",
+        "id",
+        "Feature",
+        "FeatureCollection",
+        "Point",
+        "MultiPoint",
+        "LineString",
+        "MultiLineString",
+        "Polygon",
+        "MultiPolygon",
+        "GeometryCollection",
+        "12",
+        "",
+        "\ud800",
+    ]
 )
 _LEAVES = (
-    make.none() | make.booleans() | make.floats() | make.floats(-180, 180) | make.integers(-180, 180) | _WORDS
+    make.none()
+    | make.booleans()
+    | make.floats()
+    | make.floats(-180, 180)
+    | make.integers(-180, 180)
+    | _WORDS
     | make.sampled_from([1e308, -1e308, 10**310, -(10**4000), 1 << 64, -(1 << 64), 0.15, -0.15, 1e-300])
 )
-_JSON = make.recursive(_LEAVES, lambda inner: make.lists(inner, max_size=4) | make.dictionaries(_WORDS, inner, max_size=4), max_leaves=12)
+_JSON = make.recursive(
+    _LEAVES, lambda inner: make.lists(inner, max_size=4) | make.dictionaries(_WORDS, inner, max_size=4), max_leaves=12
+)
 
 
 def _or_any(strategy):
@@ -246,17 +323,26 @@ def _or_any(strategy):
     return make.one_of(strategy, strategy, strategy, _JSON)
 
 
-_PLACES = _or_any(make.lists(_or_any(make.floats(-180, 180) | make.sampled_from([0.15, -0.15])), min_size=2, max_size=3))
+_PLACES = _or_any(
+    make.lists(_or_any(make.floats(-180, 180) | make.sampled_from([0.15, -0.15])), min_size=2, max_size=3)
+)
 _LINES = _or_any(make.lists(_PLACES, max_size=5))
 _AREAS = _or_any(make.lists(_LINES, max_size=3))
 _SPOILED = make.builds(
-    dict, type=_or_any(make.just("Feature")), id=_or_any(_IDS), properties=_or_any(_PROPERTIES),
+    dict,
+    type=_or_any(make.just("Feature")),
+    id=_or_any(_IDS),
+    properties=_or_any(_PROPERTIES),
     geometry=_or_any(
         make.one_of(
             *(
                 make.builds(dict, type=make.just(kind), coordinates=coordinates)
                 for kind, coordinates in {
-                    "Point": _PLACES, "MultiPoint": _LINES, "LineString": _LINES, "MultiLineString": _AREAS, "Polygon": _AREAS,
+                    "Point": _PLACES,
+                    "MultiPoint": _LINES,
+                    "LineString": _LINES,
+                    "MultiLineString": _AREAS,
+                    "Polygon": _AREAS,
                     "MultiPolygon": _or_any(make.lists(_AREAS, max_size=2)),
                 }.items()
             )
@@ -355,7 +441,12 @@ class TestFromGeojson:
     def test_too_far_from_one_another(self, kind):
         """Each position is less than 2^31 units from the tile, and the second one more than that from the first."""
         ends = [[-0.15, 0], [0.15, 0], [0.15, 0.1]]
-        drawn = {"MultiPoint": ends, "LineString": ends, "MultiLineString": [ends[:1] * 2, ends], "Polygon": [[*ends, ends[0]]]}
+        drawn = {
+            "MultiPoint": ends,
+            "LineString": ends,
+            "MultiLineString": [ends[:1] * 2, ends],
+            "Polygon": [[*ends, ends[0]]],
+        }
         place = (30, 1 << 29, 1 << 29)
         for each in ends:
             libmvt.from_geojson({"type": "Point", "coordinates": each}, *place)
@@ -364,9 +455,15 @@ class TestFromGeojson:
 
     def test_numbers_of_any_kind_are_positions(self):
         numpy = pytest.importorskip("numpy", reason="numpy isn't there")
-        wanted = libmvt.from_geojson({"type": "MultiPoint", "coordinates": [[1, 2], [3.5, 4.5]]}, *(numpy.int64(each) for each in (0, 0, 0)))
+        wanted = libmvt.from_geojson(
+            {"type": "MultiPoint", "coordinates": [[1, 2], [3.5, 4.5]]}, *(numpy.int64(each) for each in (0, 0, 0))
+        )
         given = numpy.array([[1, 2], [3.5, 4.5]], "f4")
-        for coordinates in (given, given.tolist(), [tuple(map(decimal.Decimal, map(str, each))) for each in given.tolist()]):
+        for coordinates in (
+            given,
+            given.tolist(),
+            [tuple(map(decimal.Decimal, map(str, each))) for each in given.tolist()],
+        ):
             assert libmvt.from_geojson({"type": "MultiPoint", "coordinates": coordinates}, 0, 0, 0) == wanted
 
     def test_large_properties_and_ids(self):
@@ -378,7 +475,10 @@ class TestFromGeojson:
             assert (layer.features[0].id, layer.vanished.ids) == (None, 1)
 
     @settings(max_examples=500, suppress_health_check=list(HealthCheck), deadline=None)
-    @given(_JSON | make.lists(_SPOILED, max_size=3) | _SPOILED, make.sampled_from([(0, 0, 0), PLACE, (30, 1 << 29, 1 << 29)]))
+    @given(
+        _JSON | make.lists(_SPOILED, max_size=3) | _SPOILED,
+        make.sampled_from([(0, 0, 0), PLACE, (30, 1 << 29, 1 << 29)]),
+    )
     def test_any_json_is_a_layer_or_refused(self, given, place):
         try:
             layer = libmvt.from_geojson(given, *place)
@@ -513,10 +613,18 @@ class TestCommands:
     @pytest.mark.parametrize(
         "words, status",
         [
-            ([], 2), (["a", "b", "0/0/0"], 2), (["0/0/0", "--precision", "x"], 2), (["0/0/0", "--layer", "rivers"], 2),
-            (["--units", "tile", "--precision", "3"], 2), (["/nowhere", "0/0/0"], 3), (["/dev", "0/0/0"], 3),
-            (["/dev/zero", "0/0/0"], 3), (["/nowhere.mbtiles", "0/0/0"], 3), (["a\x1b[31m", "0/0/0"], 3),
-            (["http://127.0.0.1:9/{z}/{x}/{y}", "0/0/0"], 3), (["/nowhere.pmtiles", "0/0/0"], 3),
+            ([], 2),
+            (["a", "b", "0/0/0"], 2),
+            (["0/0/0", "--precision", "x"], 2),
+            (["0/0/0", "--layer", "rivers"], 2),
+            (["--units", "tile", "--precision", "3"], 2),
+            (["/nowhere", "0/0/0"], 3),
+            (["/dev", "0/0/0"], 3),
+            (["/dev/zero", "0/0/0"], 3),
+            (["/nowhere.mbtiles", "0/0/0"], 3),
+            (["a\x1b[31m", "0/0/0"], 3),
+            (["http://127.0.0.1:9/{z}/{x}/{y}", "0/0/0"], 3),
+            (["/nowhere.pmtiles", "0/0/0"], 3),
         ],
     )
     def test_what_fails_is_one_line(self, words, status):
@@ -563,11 +671,20 @@ class TestCommands:
         (tmp_path / "plain.mvt").write_bytes(content)
         (tmp_path / "packed.mvt").write_bytes(gzip.compress(content, 1))
         make_tree(tmp_path / "tree", {(0, 0, 0): content})
-        for words in (["plain.mvt"], ["plain.mvt", "--raw"], ["packed.mvt"], ["tree", "0/0/0"], ["tree", "0/0/0", "--raw"]):
+        for words in (
+            ["plain.mvt"],
+            ["plain.mvt", "--raw"],
+            ["packed.mvt"],
+            ["tree", "0/0/0"],
+            ["tree", "0/0/0", "--raw"],
+        ):
             got, out, errors = run(*words, module="tile", cwd=tmp_path)
             assert (got, out, errors.count("\n")) == (1, b"", 1), errors
             assert "bytes, which no tile has" in errors
-        assert run("packed.mvt", "--raw", module="tile", cwd=tmp_path)[:2] == (0, (tmp_path / "packed.mvt").read_bytes())
+        assert run("packed.mvt", "--raw", module="tile", cwd=tmp_path)[:2] == (
+            0,
+            (tmp_path / "packed.mvt").read_bytes(),
+        )
 
     def test_a_reader_who_is_gone_ends_it_silently(self):
         feature = libmvt.Feature(None, {"a": "b" * 1000}, "points", [(1, 1)])
@@ -633,9 +750,23 @@ def test_ten_thousand_features_are_read_back_by_gdal(tmp_path):
     layer = libmvt.from_geojson({"type": "FeatureCollection", "features": made}, *PLACE)
     assert (len(layer), layer.vanished) == (10_000, (0, 0, 0, 0))
     (tmp_path / "a.mvt").write_bytes(libmvt.write(libmvt.Tile([layer])))
-    place = [word for each in (*(f"{name}={number}" for name, number in zip("ZXY", PLACE)), "CLIP=NO") for word in ("-oo", each)]
+    place = [
+        word
+        for each in (*(f"{name}={number}" for name, number in zip("ZXY", PLACE)), "CLIP=NO")
+        for word in ("-oo", each)
+    ]
     out = tmp_path / "out.geojson"
-    gdal("-f", "GeoJSON", "-lco", "RFC7946=YES", "-lco", "COORDINATE_PRECISION=9", out, f"MVT:{tmp_path / 'a.mvt'}", *place)
+    gdal(
+        "-f",
+        "GeoJSON",
+        "-lco",
+        "RFC7946=YES",
+        "-lco",
+        "COORDINATE_PRECISION=9",
+        out,
+        f"MVT:{tmp_path / 'a.mvt'}",
+        *place,
+    )
     found = json.loads(out.read_text())["features"]
     assert len(found) == len(made)
     for theirs, ours in zip(found, made):

@@ -80,10 +80,18 @@ def by_go():
     return run("go", "run", "./built", cwd=made("go-with-example", make), env=environment, text=False).stdout
 
 
-BUILDERS = {"c": (by_c, "cc"), "cpp": (by_cpp, "g++"), "python": (by_python, "true"), "rust": (by_rust, "cargo"), "go": (by_go, "go")}
+BUILDERS = {
+    "c": (by_c, "cc"),
+    "cpp": (by_cpp, "g++"),
+    "python": (by_python, "true"),
+    "rust": (by_rust, "cargo"),
+    "go": (by_go, "go"),
+}
 
 
-@pytest.mark.parametrize("make", [pytest.param(make, id=name, marks=needs(command)) for name, (make, command) in BUILDERS.items()])
+@pytest.mark.parametrize(
+    "make", [pytest.param(make, id=name, marks=needs(command)) for name, (make, command) in BUILDERS.items()]
+)
 def test_builder(make):
     tile, wanted = make(), rewritten(by_c())
     assert tile == wanted

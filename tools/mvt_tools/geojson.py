@@ -27,7 +27,9 @@ def _parser() -> argparse.ArgumentParser:
         " 3 something can't be read or written, 4 there is too little memory. Nothing is written of a refused tile.",
     )
     words.add_argument(
-        "what", nargs="*", metavar="[STORE] Z/X/Y",
+        "what",
+        nargs="*",
+        metavar="[STORE] Z/X/Y",
         help="where the tile is: a file with it, a folder {z}/{x}/{y}.mvt or .pbf, an .mbtiles or .pmtiles file, a .txt file"
         " with a name on each line, or a server, by the address of its tiles or of its TileJSON; else standard input. And"
         " its place, with Y counted from the north. gzip, zlib and zstd are unpacked",

@@ -22,7 +22,9 @@ def _parser() -> argparse.ArgumentParser:
         " 3 something can't be read or written, 4 there is too little memory. Without --mend the tile isn't judged.",
     )
     words.add_argument(
-        "what", nargs="+", metavar="STORE Z/X/Y",
+        "what",
+        nargs="+",
+        metavar="STORE Z/X/Y",
         help="where the tile is: a folder {z}/{x}/{y}.mvt or .pbf (.gz too), an .mbtiles or .pmtiles file, a .txt file with"
         " a name on each line, or a server, by the address of its tiles or of its TileJSON; a file with one tile needs no"
         " place. And its place, with Y counted from the north",

@@ -82,9 +82,13 @@ class _Rows(Sequence[_Row]):
         return len(self.rows) // self.form.size
 
     @overload
-    def __getitem__(self, index: int) -> _Row: ...
+    def __getitem__(self, index: int) -> _Row:
+        ...
+
     @overload
-    def __getitem__(self, index: slice) -> List[_Row]: ...
+    def __getitem__(self, index: slice) -> List[_Row]:
+        ...
+
     def __getitem__(self, index: Union[int, slice]) -> Union[_Row, List[_Row]]:
         places = range(len(self))[index]
         return [self._at(place) for place in places] if isinstance(places, range) else self._at(places)

@@ -56,7 +56,12 @@ def frame_of(table: Rows, layer: Union[str, LayerRow], keys: Optional[Iterable[s
     features = table.array("features")[_slice(row.features)]
     columns = _columns(table, row, features, None if keys is None else set(keys))
     return Frame(
-        table.text(row.name), row.extent, columns, features["id"].copy(), features["has_id"] == 1, _shapes(table, features)
+        table.text(row.name),
+        row.extent,
+        columns,
+        features["id"].copy(),
+        features["has_id"] == 1,
+        _shapes(table, features),
     )
 
 
@@ -162,8 +167,10 @@ class _Columns:
         bits = used["bits"]
         below, above = signed & (bits >> numpy.uint64(63) == 1), ~signed & (bits >> numpy.uint64(63) == 1)
         if whole.all() and len(owners) == self._length and not (below.any() and (above & whole).any()):
-            return self._placed(owners, bits, numpy.uint64) if (above & whole).any() else self._placed(
-                owners, bits.view(numpy.int64), numpy.int64
+            return (
+                self._placed(owners, bits, numpy.uint64)
+                if (above & whole).any()
+                else self._placed(owners, bits.view(numpy.int64), numpy.int64)
             )
         size = numpy.where(below, ~bits + numpy.uint64(1), bits)
         if (whole & (size >= numpy.uint64(1 << 53))).any():

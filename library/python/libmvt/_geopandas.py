@@ -74,7 +74,9 @@ def _offsets(lengths: Array) -> Array:
     return numpy.concatenate([[0], numpy.cumsum(lengths)]).astype(numpy.int64)
 
 
-def _fill(made: Array, shapes: Shapes, located: Array, makers: Tuple[Callable[..., Array], Callable[..., Array]]) -> None:
+def _fill(
+    made: Array, shapes: Shapes, located: Array, makers: Tuple[Callable[..., Array], Callable[..., Array]]
+) -> None:
     """Puts in each geometry; of an unknown kind there is none. One maker makes single points, lines or polygons of places, and
     the other one geometry of the single ones of a feature that has several."""
     single, several = makers

@@ -49,7 +49,13 @@ class FeatureRow:
     parts: Span
     integers: Span
     def __init__(
-        self, id: int = ..., has_id: int = ..., kind: int = ..., tags: Span = ..., parts: Span = ..., integers: Span = ...
+        self,
+        id: int = ...,
+        has_id: int = ...,
+        kind: int = ...,
+        tags: Span = ...,
+        parts: Span = ...,
+        integers: Span = ...,
     ) -> None: ...
 
 class ValueRow:

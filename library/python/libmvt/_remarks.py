@@ -88,7 +88,9 @@ class Survey:
     notes: List[Note]
 
     def __repr__(self) -> str:
-        counts = f"{type(self).__name__}(layers={self.layers}, features={self.features}, canonical={self.canonical}, notes="
+        counts = (
+            f"{type(self).__name__}(layers={self.layers}, features={self.features}, canonical={self.canonical}, notes="
+        )
         return brief(chain([counts], pieces(self.notes), [")"]))
 
 

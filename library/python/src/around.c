@@ -2,7 +2,8 @@
 #include "module.h"
 
 static PyObject *bounds_told(mvt_bounds of) {
-    return Py_BuildValue("(KKK)", (unsigned long long)of.start, (unsigned long long)of.body, (unsigned long long)of.end);
+    return Py_BuildValue("(KKK)", (unsigned long long)of.start, (unsigned long long)of.body,
+                         (unsigned long long)of.end);
 }
 
 static PyObject *none(void) {
@@ -17,9 +18,10 @@ static PyObject *number_or_none(uint32_t is_there, uint64_t number) {
 }
 
 static PyObject *surroundings_told(const mvt_surroundings *of) {
-    return Py_BuildValue("(NNNNNkNNNNN)", bounds_or_none(of->has_layer, of->layer), number_or_none(of->has_extent, of->extent),
-                         bounds_or_none(of->has_feature, of->feature), number_or_none(of->has_kind, of->kind),
-                         bounds_told(of->message), (unsigned long)of->list, rows_told(of->keys, of->key_count, sizeof *of->keys),
+    return Py_BuildValue("(NNNNNkNNNNN)", bounds_or_none(of->has_layer, of->layer),
+                         number_or_none(of->has_extent, of->extent), bounds_or_none(of->has_feature, of->feature),
+                         number_or_none(of->has_kind, of->kind), bounds_told(of->message), (unsigned long)of->list,
+                         rows_told(of->keys, of->key_count, sizeof *of->keys),
                          rows_told(of->tags, of->tag_count, sizeof *of->tags),
                          rows_told(of->geometry, of->geometry_count, sizeof *of->geometry),
                          rows_told(of->steps, of->step_count, sizeof *of->steps),
@@ -39,10 +41,9 @@ static PyObject *around_rows(PyObject *module, PyObject *words) {
     size_t len;
     const uint8_t *bytes = content_of(tile, &len);
     uint32_t status;
-    Py_BEGIN_ALLOW_THREADS
-    status = mvt_around(bytes, len, &fault, &out);
-    Py_END_ALLOW_THREADS
-    if (raise_for(state_of_module(module), status, &fault, bytes, len, tile) == 0) told = surroundings_told(&out);
+    Py_BEGIN_ALLOW_THREADS status = mvt_around(bytes, len, &fault, &out);
+    Py_END_ALLOW_THREADS if (raise_for(state_of_module(module), status, &fault, bytes, len, tile) == 0) told =
+        surroundings_told(&out);
     mvt_surroundings_free(&out);
     Py_DECREF(tile);
     return told;

@@ -2,8 +2,7 @@
 #include "module.h"
 
 typedef struct {
-    PyObject_HEAD
-    PyObject *weak;
+    PyObject_HEAD PyObject *weak;
     building to;
 } builder;
 
@@ -75,15 +74,20 @@ static PyObject *add_feature(PyObject *self, PyObject *words, PyObject *named) {
 }
 
 /* An attribute, of the words that `as` says. */
-static PyObject *tagged(PyObject *self, PyObject *words, PyObject *named, const char *as, int (*add)(building *, PyObject *, PyObject *)) {
+static PyObject *tagged(PyObject *self, PyObject *words, PyObject *named, const char *as,
+                        int (*add)(building *, PyObject *, PyObject *)) {
     static char *known[] = {"key", "value", NULL};
     PyObject *key, *value;
     if (!PyArg_ParseTupleAndKeywords(words, named, as, known, &key, &value)) return NULL;
     return itself(self, add(to(self), key, value));
 }
 
-static PyObject *add_tag(PyObject *self, PyObject *words, PyObject *named) { return tagged(self, words, named, "OO:tag", build_tag); }
-static PyObject *add_tag_at(PyObject *self, PyObject *words, PyObject *named) { return tagged(self, words, named, "OO:tag_at", build_tag_at); }
+static PyObject *add_tag(PyObject *self, PyObject *words, PyObject *named) {
+    return tagged(self, words, named, "OO:tag", build_tag);
+}
+static PyObject *add_tag_at(PyObject *self, PyObject *words, PyObject *named) {
+    return tagged(self, words, named, "OO:tag_at", build_tag_at);
+}
 
 static PyObject *add_point(PyObject *self, PyObject *words, PyObject *named) {
     static char *known[] = {"x", "y", NULL};
@@ -103,9 +107,15 @@ static PyObject *drawn(PyObject *self, PyObject *words, PyObject *named, const c
     return itself(self, build_drawn(to(self), kind, 0, given));
 }
 
-static PyObject *add_points(PyObject *self, PyObject *words, PyObject *named) { return drawn(self, words, named, "O:points", MVT_POINTS); }
-static PyObject *add_line(PyObject *self, PyObject *words, PyObject *named) { return drawn(self, words, named, "O:line", MVT_LINES); }
-static PyObject *add_integers(PyObject *self, PyObject *words, PyObject *named) { return drawn(self, words, named, "O:integers", MVT_UNKNOWN); }
+static PyObject *add_points(PyObject *self, PyObject *words, PyObject *named) {
+    return drawn(self, words, named, "O:points", MVT_POINTS);
+}
+static PyObject *add_line(PyObject *self, PyObject *words, PyObject *named) {
+    return drawn(self, words, named, "O:line", MVT_LINES);
+}
+static PyObject *add_integers(PyObject *self, PyObject *words, PyObject *named) {
+    return drawn(self, words, named, "O:integers", MVT_UNKNOWN);
+}
 
 static PyObject *add_ring(PyObject *self, PyObject *words, PyObject *named) {
     static char *known[] = {"points", "exterior", NULL};
@@ -131,7 +141,8 @@ static PyObject *finish(PyObject *self, PyObject *unused) {
 }
 
 static PyMethodDef METHODS[] = {
-    {"layer", WITH_WORDS(add_layer), "layer($self, name, extent=4096)\n--\n\nBegins a layer, which ends the one before."},
+    {"layer", WITH_WORDS(add_layer),
+     "layer($self, name, extent=4096)\n--\n\nBegins a layer, which ends the one before."},
     {"foreign", WITH_WORDS(add_foreign),
      "foreign($self, version, content)\n--\n\nAdds a layer of another version, of which these are the bytes."},
     {"key", WITH_WORDS(key_at), "key($self, key)\n--\n\nThe index of a key of the layer."},
@@ -172,8 +183,11 @@ static const char DOC[] =
 
 static PyMemberDef MEMBERS[] = {WEAK_MEMBER(builder), {NULL, 0, 0, 0, NULL}};
 
-static PyType_Slot SLOTS[] = {{Py_tp_new, builder_new},         {Py_tp_init, builder_init},
-                              {Py_tp_dealloc, builder_dealloc}, {Py_tp_methods, METHODS},
-                              {Py_tp_members, MEMBERS},         {Py_tp_doc, (void *)DOC},
+static PyType_Slot SLOTS[] = {{Py_tp_new, builder_new},
+                              {Py_tp_init, builder_init},
+                              {Py_tp_dealloc, builder_dealloc},
+                              {Py_tp_methods, METHODS},
+                              {Py_tp_members, MEMBERS},
+                              {Py_tp_doc, (void *)DOC},
                               {0, NULL}};
 PyType_Spec BUILDER_SPEC = {"libmvt.Builder", sizeof(builder), 0, Py_TPFLAGS_DEFAULT | Py_TPFLAGS_BASETYPE, SLOTS};

@@ -43,7 +43,8 @@ static PyObject *error_taken(const state *of, PyObject **class) {
 
 /* Raises the error again, with the place: the layer, by a name or a version, the feature, whose number is -1 where there is
  * none, and what of it, with its name where it has one. Errors and names tell themselves, and may end the layer meanwhile. */
-static int raise_at(const building *to, const char *layer, PyObject *called, int64_t feature, const char *what, PyObject *name) {
+static int raise_at(const building *to, const char *layer, PyObject *called, int64_t feature, const char *what,
+                    PyObject *name) {
     Py_INCREF(called);
     PyObject *class = NULL, *told = error_taken(to->of, &class), *quoted = NULL;
     char number[32] = "";
@@ -112,12 +113,13 @@ static uint32_t end_feature(building *to) {
     uint32_t status = MVT_OK;
     if (!to->in_feature) return status;
     if (to->kind != MVT_UNKNOWN) {
-        status = mvt_builder_add(&to->rows, (mvt_kind)to->kind, id, tags, to->tags.count, to->parts.items, to->parts.count,
-                                 to->points.items, to->points.count);
+        status = mvt_builder_add(&to->rows, (mvt_kind)to->kind, id, tags, to->tags.count, to->parts.items,
+                                 to->parts.count, to->points.items, to->points.count);
     } else {
         status = mvt_builder_feature(&to->rows, MVT_UNKNOWN);
         if (id != NULL) status = mvt_builder_id(&to->rows, *id);
-        for (size_t at = 0; at < to->tags.count; at += 2) status = mvt_builder_tag_at(&to->rows, tags[at], tags[at + 1]);
+        for (size_t at = 0; at < to->tags.count; at += 2)
+            status = mvt_builder_tag_at(&to->rows, tags[at], tags[at + 1]);
         if (to->integers.count != 0) status = mvt_builder_integers(&to->rows, to->integers.items, to->integers.count);
     }
     to->in_feature = 0, to->ended += 1;
@@ -251,7 +253,8 @@ int build_drawn(building *to, int kind, int exterior, PyObject *given) {
     if (need_feature(to, kind) < 0) return -1;
     void *items;
     size_t count;
-    if ((kind == MVT_UNKNOWN ? integers_given : points_given)(given, &items, &count) < 0) return raise_here(to, "geometry", NULL);
+    if ((kind == MVT_UNKNOWN ? integers_given : points_given)(given, &items, &count) < 0)
+        return raise_here(to, "geometry", NULL);
     int status = need_feature(to, kind);
     if (status == 0) status = gather_drawn(to, exterior != 0, items, count);
     PyMem_Free(items);
@@ -284,10 +287,8 @@ PyObject *build_finish(building *to) {
     uint32_t status;
     to->rows.held = NULL;
     begin_layer(to, NULL);
-    Py_BEGIN_ALLOW_THREADS
-    status = mvt_builder_finish(&last, &out, &wrong);
-    Py_END_ALLOW_THREADS
-    return made_of_rows(to->of, status, &out, &wrong);
+    Py_BEGIN_ALLOW_THREADS status = mvt_builder_finish(&last, &out, &wrong);
+    Py_END_ALLOW_THREADS return made_of_rows(to->of, status, &out, &wrong);
 }
 
 void build_end(building *to) {

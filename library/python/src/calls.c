@@ -39,7 +39,8 @@ static PyObject *number_or_none(int is_there, uint64_t number) {
 static PyObject *index_or_none(int64_t index) { return number_or_none(index >= 0, (uint64_t)index); }
 
 static PyObject *text_or_none(int is_there, mvt_bytes text) {
-    if (is_there) return PyUnicode_DecodeUTF8(text.len == 0 ? "" : (const char *)text.data, (Py_ssize_t)text.len, "replace");
+    if (is_there)
+        return PyUnicode_DecodeUTF8(text.len == 0 ? "" : (const char *)text.data, (Py_ssize_t)text.len, "replace");
     Py_INCREF(Py_None);
     return Py_None;
 }
@@ -56,21 +57,23 @@ static void raise_refused(const state *of, const mvt_fault *fault, const uint8_t
     mvt_place place = {0};
     mvt_locate(bytes, len, fault, &place);
     const int has_place = len != 0 && whole != NULL;
-    PyObject *why = PyObject_CallFunction(
-        of->refused, "NNKks#sNNNN", index_or_none(fault->layer), index_or_none(fault->feature),
-        (unsigned long long)fault->at, (unsigned long)fault->cause, (const char *)fault->name.data,
-        (Py_ssize_t)fault->name.len, mvt_explain_head(bytes, len, size, fault),
-        text_or_none(place.has_layer_name != 0, place.layer_name),
-        number_or_none(place.has_feature_id != 0, place.feature_id), number_or_none(has_place, place.start),
-        number_or_none(has_place, place.end));
+    PyObject *why = PyObject_CallFunction(of->refused, "NNKks#sNNNN", index_or_none(fault->layer),
+                                          index_or_none(fault->feature), (unsigned long long)fault->at,
+                                          (unsigned long)fault->cause, (const char *)fault->name.data,
+                                          (Py_ssize_t)fault->name.len, mvt_explain_head(bytes, len, size, fault),
+                                          text_or_none(place.has_layer_name != 0, place.layer_name),
+                                          number_or_none(place.has_feature_id != 0, place.feature_id),
+                                          number_or_none(has_place, place.start), number_or_none(has_place, place.end));
     const int is_held = why != NULL && whole != NULL && is_curable(fault);
-    if (why != NULL && (!is_held || PyObject_SetAttrString(why, "_tile", whole) == 0)) PyErr_SetObject(of->refused, why);
+    if (why != NULL && (!is_held || PyObject_SetAttrString(why, "_tile", whole) == 0))
+        PyErr_SetObject(of->refused, why);
     Py_XDECREF(why);
 }
 
 /* Raises what a status other than MVT_OK means: 0, or -1 with an error. The bytes are those of the whole tile, if that is given,
  * and else all of a tile or its first. */
-int raise_for(const state *of, uint32_t status, const mvt_fault *fault, const uint8_t *bytes, size_t len, PyObject *whole) {
+int raise_for(const state *of, uint32_t status, const mvt_fault *fault, const uint8_t *bytes, size_t len,
+              PyObject *whole) {
     switch (status) {
     case MVT_OK: return 0;
     case MVT_REFUSED: raise_refused(of, fault, bytes, len, len, whole); break;
@@ -82,7 +85,8 @@ int raise_for(const state *of, uint32_t status, const mvt_fault *fault, const ui
 }
 
 /* The same of a tile of `size` bytes, of which these are the first. */
-int raise_for_head(const state *of, uint32_t status, const mvt_fault *fault, const uint8_t *head, size_t len, uint64_t size) {
+int raise_for_head(const state *of, uint32_t status, const mvt_fault *fault, const uint8_t *head, size_t len,
+                   uint64_t size) {
     if (status != MVT_REFUSED) return raise_for(of, status, fault, head, len, NULL);
     raise_refused(of, fault, head, len, size, NULL);
     return -1;
@@ -102,7 +106,8 @@ int raise_no_tile(const state *of, const mvt_rows_fault *wrong) {
     if (wrong->has_feature) snprintf(feature, sizeof feature, " feature %llu", (unsigned long long)wrong->feature);
     if (has_rule) snprintf(part, sizeof part, " part %llu", (unsigned long long)wrong->part);
     if (wrong->has_point) snprintf(point, sizeof point, " point %llu", (unsigned long long)wrong->point);
-    PyObject *told = PyUnicode_FromFormat("layer %llu%s%s%s: %s", (unsigned long long)wrong->layer, feature, part, point, said);
+    PyObject *told =
+        PyUnicode_FromFormat("layer %llu%s%s%s: %s", (unsigned long long)wrong->layer, feature, part, point, said);
     PyObject *why = told == NULL ? NULL : PyObject_CallFunctionObjArgs(of->no_tile, told, NULL);
     if (why != NULL && set_number(why, "layer", PyLong_FromUnsignedLongLong(wrong->layer)) == 0 &&
         set_number(why, "feature", number_or_none(wrong->has_feature != 0, wrong->feature)) == 0 &&
@@ -126,10 +131,8 @@ static PyObject *judge(PyObject *module, PyObject *words, PyObject *named) {
     size_t len;
     const uint8_t *bytes = content_of(tile, &len);
     uint32_t status;
-    Py_BEGIN_ALLOW_THREADS
-    status = mvt_judge(bytes, len, &fault);
-    Py_END_ALLOW_THREADS
-    const int failed = raise_for(state_of_module(module), status, &fault, bytes, len, tile);
+    Py_BEGIN_ALLOW_THREADS status = mvt_judge(bytes, len, &fault);
+    Py_END_ALLOW_THREADS const int failed = raise_for(state_of_module(module), status, &fault, bytes, len, tile);
     Py_DECREF(tile);
     return failed ? NULL : number_or_none(0, 0);
 }
@@ -173,10 +176,9 @@ static PyObject *made_of(PyObject *module, PyObject *words, PyObject *named, mak
     size_t len;
     const uint8_t *bytes = content_of(tile, &len);
     uint32_t status;
-    Py_BEGIN_ALLOW_THREADS
-    status = call(bytes, len, &out, &fault);
-    Py_END_ALLOW_THREADS
-    if (raise_for(state_of_module(module), status, &fault, bytes, len, tile) == 0) made = as(state_of_module(module), &out);
+    Py_BEGIN_ALLOW_THREADS status = call(bytes, len, &out, &fault);
+    Py_END_ALLOW_THREADS if (raise_for(state_of_module(module), status, &fault, bytes, len, tile) == 0) made =
+        as(state_of_module(module), &out);
     mvt_bytes_free(&out);
     Py_DECREF(tile);
     return made;
@@ -233,10 +235,8 @@ static PyObject *extract_from(const state *of, PyObject *tile, PyObject *list, c
     const size_t count = (size_t)PyList_Size(list);
     const uint8_t *bytes = content_of(tile, &len);
     uint32_t status;
-    Py_BEGIN_ALLOW_THREADS
-    status = mvt_extract(bytes, len, names, count, &out, &fault, &missing);
-    Py_END_ALLOW_THREADS
-    PyObject *made = NULL;
+    Py_BEGIN_ALLOW_THREADS status = mvt_extract(bytes, len, names, count, &out, &fault, &missing);
+    Py_END_ALLOW_THREADS PyObject *made = NULL;
     if (status == MVT_NO_LAYER) {
         PyObject *name = text_or_none(1, names[missing]);
         PyObject *why = name == NULL ? NULL : PyObject_CallFunctionObjArgs(of->no_layer, name, NULL);
@@ -273,18 +273,22 @@ static PyObject *version(PyObject *module, PyObject *unused) {
 
 PyMethodDef CALLS[] = {
     {"judge", WITH_WORDS(judge),
-     OF_TILE(judge) "Raises Refused where the bytes are no tile. Makes nothing of them, so it is the fastest way to know."},
+     OF_TILE(
+         judge) "Raises Refused where the bytes are no tile. Makes nothing of them, so it is the fastest way to know."},
     {"rewrite", WITH_WORDS(rewrite),
      OF_TILE(rewrite) "The canonical bytes of a tile: equal tiles have equal bytes. Raises Refused and TooLarge."},
     {"extract", WITH_WORDS(extract),
      "extract($module, /, tile, names)\n--\n\n"
      "The canonical bytes of the named layers, in the order of the tile.\n\n"
      "A name that stands twice counts once. Raises NoLayer where a name has no layer, Refused and TooLarge."},
-    {"report_lines", WITH_WORDS(report_lines), OF_TILE(report_lines) "What `mvt check` prints of a tile. Raises Refused."},
+    {"report_lines", WITH_WORDS(report_lines),
+     OF_TILE(report_lines) "What `mvt check` prints of a tile. Raises Refused."},
     {"to_json", WITH_WORDS(to_json), OF_TILE(to_json) "A tile as JSON, in one line. Raises Refused."},
-    {"json_lent", WITH_WORDS(json_lent), OF_TILE(json_lent) "The same in UTF-8, as a buffer over the library's memory."},
+    {"json_lent", WITH_WORDS(json_lent),
+     OF_TILE(json_lent) "The same in UTF-8, as a buffer over the library's memory."},
     {"to_svg", WITH_WORDS(to_svg), OF_TILE(to_svg) "A picture of a tile in SVG. Raises Refused."},
     {"svg_lent", WITH_WORDS(svg_lent), OF_TILE(svg_lent) "The same in UTF-8, as a buffer over the library's memory."},
-    {"version", version, METH_NOARGS, "version($module)\n--\n\nThe version of the library, which is that of this module."},
+    {"version", version, METH_NOARGS,
+     "version($module)\n--\n\nThe version of the library, which is that of this module."},
     {NULL, NULL, 0, NULL},
 };

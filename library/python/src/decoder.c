@@ -2,8 +2,7 @@
 #include "module.h"
 
 typedef struct {
-    PyObject_HEAD
-    PyObject *weak;
+    PyObject_HEAD PyObject *weak;
     state *of;
     mvt_decoder decoder;
     PyThread_type_lock turn;
@@ -27,8 +26,7 @@ static PyObject *decoder_new(PyTypeObject *type, PyObject *words, PyObject *name
 /* Where threads share a decoder, a call waits until another's is done. */
 static void take_turn(decoder *of) {
     if (PyThread_acquire_lock(of->turn, NOWAIT_LOCK)) return;
-    Py_BEGIN_ALLOW_THREADS
-    PyThread_acquire_lock(of->turn, WAIT_LOCK);
+    Py_BEGIN_ALLOW_THREADS PyThread_acquire_lock(of->turn, WAIT_LOCK);
     Py_END_ALLOW_THREADS
 }
 
@@ -84,8 +82,7 @@ static PyObject *feed(PyObject *self, PyObject *words, PyObject *named) {
     const uint8_t *bytes = content_of(piece, &len);
     take_turn(of);
     if (keep_head(of, bytes, len)) {
-        Py_BEGIN_ALLOW_THREADS
-        status = mvt_decoder_feed(&of->decoder, bytes, len, &fault);
+        Py_BEGIN_ALLOW_THREADS status = mvt_decoder_feed(&of->decoder, bytes, len, &fault);
         Py_END_ALLOW_THREADS
     }
     PyThread_release_lock(of->turn);
@@ -101,10 +98,8 @@ static int end(decoder *of, mvt_tile *tile) {
     mvt_fault fault = {0};
     uint32_t status;
     take_turn(of);
-    Py_BEGIN_ALLOW_THREADS
-    status = mvt_decoder_finish(&of->decoder, tile, &fault);
-    Py_END_ALLOW_THREADS
-    PyThread_release_lock(of->turn);
+    Py_BEGIN_ALLOW_THREADS status = mvt_decoder_finish(&of->decoder, tile, &fault);
+    Py_END_ALLOW_THREADS PyThread_release_lock(of->turn);
     return raise_for_head(of->of, status, &fault, of->head, of->known, of->size);
 }
 
@@ -144,8 +139,11 @@ static const char DOC[] =
 
 static PyMemberDef MEMBERS[] = {WEAK_MEMBER(decoder), {NULL, 0, 0, 0, NULL}};
 
-static PyType_Slot SLOTS[] = {{Py_tp_new, decoder_new},         {Py_tp_init, decoder_init},
-                              {Py_tp_dealloc, decoder_dealloc}, {Py_tp_methods, METHODS},
-                              {Py_tp_members, MEMBERS},         {Py_tp_doc, (void *)DOC},
+static PyType_Slot SLOTS[] = {{Py_tp_new, decoder_new},
+                              {Py_tp_init, decoder_init},
+                              {Py_tp_dealloc, decoder_dealloc},
+                              {Py_tp_methods, METHODS},
+                              {Py_tp_members, MEMBERS},
+                              {Py_tp_doc, (void *)DOC},
                               {0, NULL}};
 PyType_Spec DECODER_SPEC = {"libmvt.Decoder", sizeof(decoder), 0, Py_TPFLAGS_DEFAULT | Py_TPFLAGS_BASETYPE, SLOTS};

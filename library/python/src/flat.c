@@ -160,7 +160,8 @@ static PyObject *flat_from_arrays(PyObject *type, PyObject *words, PyObject *nam
     }
     state *of = state_of_type((PyTypeObject *)type);
     PyObject *arrays = of == NULL ? NULL : named != NULL ? PyDict_Copy(named) : PyDict_New();
-    PyObject *contents = arrays == NULL ? NULL : of_numpy("libmvt._arrays", "contents_of", Py_BuildValue("(N)", arrays));
+    PyObject *contents =
+        arrays == NULL ? NULL : of_numpy("libmvt._arrays", "contents_of", Py_BuildValue("(N)", arrays));
     PyObject *made = contents == NULL ? NULL : flat_of_contents(of, contents);
     Py_XDECREF(contents);
     return made;
@@ -201,7 +202,8 @@ static PyObject *rows_of(PyObject *module, PyObject *contents) {
 }
 
 PyMethodDef ROWS_CALLS[] = {
-    {"rows_of", rows_of, METH_O, "rows_of($module, contents, /)\n--\n\nRows of the bytes of each list, which are copied."},
+    {"rows_of", rows_of, METH_O,
+     "rows_of($module, contents, /)\n--\n\nRows of the bytes of each list, which are copied."},
     {NULL, NULL, 0, NULL},
 };
 
@@ -235,13 +237,13 @@ static PyObject *get_list(PyObject *self, void *closure) {
     return rows;
 }
 
-#define LIST_OF(kind, name) {name, get_list, NULL, NULL, (void *)&LIST_KINDS[kind]}
+#define LIST_OF(kind, name)                                                                                            \
+    { name, get_list, NULL, NULL, (void *)&LIST_KINDS[kind] }
 
 static PyGetSetDef FLAT_LISTS[] = {
-    LIST_OF(LAYERS, "layers"), LIST_OF(FEATURES, "features"), LIST_OF(KEYS, "keys"),
-    LIST_OF(VALUES, "values"), LIST_OF(TAGS, "tags"),         LIST_OF(PARTS, "parts"),
-    LIST_OF(POINTS, "points"), LIST_OF(INTEGERS, "integers"), LIST_OF(TEXTS, "texts"),
-    {NULL, NULL, NULL, NULL, NULL},
+    LIST_OF(LAYERS, "layers"), LIST_OF(FEATURES, "features"),  LIST_OF(KEYS, "keys"),     LIST_OF(VALUES, "values"),
+    LIST_OF(TAGS, "tags"),     LIST_OF(PARTS, "parts"),        LIST_OF(POINTS, "points"), LIST_OF(INTEGERS, "integers"),
+    LIST_OF(TEXTS, "texts"),   {NULL, NULL, NULL, NULL, NULL},
 };
 
 static const char FLAT_DOC[] =
@@ -252,8 +254,11 @@ static const char FLAT_DOC[] =
 
 static PyMemberDef FLAT_MEMBERS[] = {WEAK_MEMBER(flat), {NULL, 0, 0, 0, NULL}};
 
-static PyType_Slot FLAT_SLOTS[] = {{Py_tp_new, never_new},          {Py_tp_dealloc, flat_dealloc},
-                                   {Py_tp_methods, FLAT_METHODS},   {Py_tp_getset, FLAT_LISTS},
-                                   {Py_tp_members, FLAT_MEMBERS},   {Py_tp_doc, (void *)FLAT_DOC},
+static PyType_Slot FLAT_SLOTS[] = {{Py_tp_new, never_new},
+                                   {Py_tp_dealloc, flat_dealloc},
+                                   {Py_tp_methods, FLAT_METHODS},
+                                   {Py_tp_getset, FLAT_LISTS},
+                                   {Py_tp_members, FLAT_MEMBERS},
+                                   {Py_tp_doc, (void *)FLAT_DOC},
                                    {0, NULL}};
 PyType_Spec FLAT_SPEC = {"libmvt.Rows", sizeof(flat), 0, Py_TPFLAGS_DEFAULT, FLAT_SLOTS};

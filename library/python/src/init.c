@@ -11,15 +11,10 @@ enum { MULTIPLE_INTERPRETERS = 3, OWN_LOCK = 2 };
 static PyModuleDef_Slot SLOTS[] = {{Py_mod_exec, execute}, {MULTIPLE_INTERPRETERS, (void *)OWN_LOCK}, {0, NULL}};
 static PyModuleDef_Slot FORMER_SLOTS[] = {{Py_mod_exec, execute}, {0, NULL}};
 
-#define MODULE_OF(slots)                                  \
-    {                                                     \
-        PyModuleDef_HEAD_INIT,                            \
-        .m_name = "libmvt._mvt",                             \
-        .m_doc = "The proved library, for the module libmvt.", \
-        .m_size = sizeof(state),                          \
-        .m_slots = slots,                                 \
-        .m_traverse = traverse,                           \
-        .m_clear = clear,                                 \
+#define MODULE_OF(slots)                                                                                               \
+    {                                                                                                                  \
+        PyModuleDef_HEAD_INIT, .m_name = "libmvt._mvt", .m_doc = "The proved library, for the module libmvt.",         \
+                               .m_size = sizeof(state), .m_slots = slots, .m_traverse = traverse, .m_clear = clear,    \
     }
 static PyModuleDef MODULE = MODULE_OF(SLOTS);
 static PyModuleDef FORMER_MODULE = MODULE_OF(FORMER_SLOTS);
@@ -70,27 +65,19 @@ typedef struct {
     size_t at;
 } wanted;
 
-#define WANTED(module, name, field) {module, name, offsetof(state, field)}
+#define WANTED(module, name, field)                                                                                    \
+    { module, name, offsetof(state, field) }
 
 static const wanted CLASSES[] = {
-    WANTED("libmvt._tiles", "Tile", tile),
-    WANTED("libmvt._tiles", "Layer", layer),
-    WANTED("libmvt._tiles", "Foreign", foreign),
-    WANTED("libmvt._tiles", "Feature", feature),
-    WANTED("libmvt._values", "Float", single),
-    WANTED("libmvt._values", "Int", signed_int),
-    WANTED("libmvt._values", "Uint", uint),
-    WANTED("libmvt._values", "Sint", sint),
-    WANTED("libmvt._errors", "MvtError", error),
-    WANTED("libmvt._errors", "Refused", refused),
-    WANTED("libmvt._errors", "TooLarge", too_large),
-    WANTED("libmvt._errors", "NoLayer", no_layer),
-    WANTED("libmvt._errors", "NoTile", no_tile),
-    WANTED("libmvt._errors", "OutOfRange", out_of_range),
-    WANTED("gc", "isenabled", is_collecting),
-    WANTED("gc", "get_threshold", thresholds),
-    WANTED("gc", "set_threshold", set_thresholds),
-    WANTED("gc", "collect", collect),
+    WANTED("libmvt._tiles", "Tile", tile),           WANTED("libmvt._tiles", "Layer", layer),
+    WANTED("libmvt._tiles", "Foreign", foreign),     WANTED("libmvt._tiles", "Feature", feature),
+    WANTED("libmvt._values", "Float", single),       WANTED("libmvt._values", "Int", signed_int),
+    WANTED("libmvt._values", "Uint", uint),          WANTED("libmvt._values", "Sint", sint),
+    WANTED("libmvt._errors", "MvtError", error),     WANTED("libmvt._errors", "Refused", refused),
+    WANTED("libmvt._errors", "TooLarge", too_large), WANTED("libmvt._errors", "NoLayer", no_layer),
+    WANTED("libmvt._errors", "NoTile", no_tile),     WANTED("libmvt._errors", "OutOfRange", out_of_range),
+    WANTED("gc", "isenabled", is_collecting),        WANTED("gc", "get_threshold", thresholds),
+    WANTED("gc", "set_threshold", set_thresholds),   WANTED("gc", "collect", collect),
 };
 
 static PyObject **field_at(state *of, size_t at) { return (PyObject **)((char *)of + at); }
@@ -134,7 +121,8 @@ static int execute(PyObject *module) {
         add_type(module, &of->flat, &FLAT_SPEC) < 0 || add_type(module, &of->builder, &BUILDER_SPEC) < 0 ||
         add_type(module, &of->decoder, &DECODER_SPEC) < 0)
         return -1;
-    PyMethodDef *const calls[] = {CALLS, REMARKS_CALLS, AROUND_CALLS, SIZES_CALLS, READING_CALLS, ROWS_CALLS, WRITING_CALLS};
+    PyMethodDef *const calls[] = {CALLS,         REMARKS_CALLS, AROUND_CALLS, SIZES_CALLS,
+                                  READING_CALLS, ROWS_CALLS,    WRITING_CALLS};
     for (size_t i = 0; i < sizeof calls / sizeof *calls; ++i)
         if (PyModule_AddFunctions(module, calls[i]) < 0) return -1;
     return 0;

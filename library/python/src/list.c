@@ -1,8 +1,8 @@
 /* A list of rows: a sequence over memory that its owner keeps, and a buffer for memoryview and numpy. */
 #include "buffer.h"
 
-#define ROWS_KIND(structure, list, count, row) \
-    {#list, sizeof(structure), offsetof(mvt_tile, list), offsetof(mvt_tile, count), row}
+#define ROWS_KIND(structure, list, count, row)                                                                         \
+    { #list, sizeof(structure), offsetof(mvt_tile, list), offsetof(mvt_tile, count), row }
 
 const list_kind LIST_KINDS[LISTS] = {
     [LAYERS] = ROWS_KIND(mvt_layer, layers, layer_count, LAYER),
@@ -88,16 +88,12 @@ static int list_lends(PyObject *self, buffer *out, int flags) {
     return lend(out, flags, self, of->data, &of->count, &of->size, format, 1);
 }
 
-static PyType_Slot LIST_SLOTS[] = {{Py_tp_new, never_new},
-                                   {Py_tp_dealloc, list_dealloc},
-                                   {Py_sq_length, list_length},
-                                   {Py_sq_item, list_item},
-                                   {Py_mp_length, list_length},
-                                   {Py_mp_subscript, list_at},
-                                   {Py_mp_ass_subscript, list_put},
-                                   {Py_tp_doc, "A list of rows over memory that it keeps."},
-                                   {SLOT_GETBUFFER, list_lends},
-                                   {0, NULL}};
+static PyType_Slot LIST_SLOTS[] = {
+    {Py_tp_new, never_new},          {Py_tp_dealloc, list_dealloc},
+    {Py_sq_length, list_length},     {Py_sq_item, list_item},
+    {Py_mp_length, list_length},     {Py_mp_subscript, list_at},
+    {Py_mp_ass_subscript, list_put}, {Py_tp_doc, "A list of rows over memory that it keeps."},
+    {SLOT_GETBUFFER, list_lends},    {0, NULL}};
 PyType_Spec LIST_SPEC = {"libmvt._mvt.List", sizeof(list), 0, Py_TPFLAGS_DEFAULT, LIST_SLOTS};
 
 /* Bytes that the owner keeps. */

@@ -18,8 +18,20 @@ enum { LAYERS, FEATURES, KEYS, VALUES, TAGS, PARTS, POINTS, INTEGERS, TEXTS, LIS
 enum { SPAN, LAYER, FEATURE, VALUE, PART, POINT, ROWS };
 
 /* The names of attributes that are read and set for each feature. */
-enum { NAME_ID, NAME_ATTRIBUTES, NAME_KIND, NAME_GEOMETRY, NAME_NAME, NAME_EXTENT, NAME_FEATURES, NAME_VERSION,
-       NAME_BYTES, NAME_LAYERS, NAME_BITS, NAMES };
+enum {
+    NAME_ID,
+    NAME_ATTRIBUTES,
+    NAME_KIND,
+    NAME_GEOMETRY,
+    NAME_NAME,
+    NAME_EXTENT,
+    NAME_FEATURES,
+    NAME_VERSION,
+    NAME_BYTES,
+    NAME_LAYERS,
+    NAME_BITS,
+    NAMES
+};
 
 /* What an interpreter's module holds. The classes of plain objects, of numbers and of errors are Python's own. */
 typedef struct {
@@ -28,7 +40,8 @@ typedef struct {
     PyObject *error, *refused, *too_large, *no_layer, *no_tile, *out_of_range;
     PyObject *rows[ROWS], *list, *held, *flat, *builder, *decoder;
     PyObject *names[NAMES], *kinds[4], *no_words, *new_float;
-    PyObject *is_collecting, *thresholds, *set_thresholds, *collect, *young; /* calls of the collector of cycles, and a word for it */
+    PyObject *is_collecting, *thresholds, *set_thresholds, *collect,
+        *young; /* calls of the collector of cycles, and a word for it */
     newfunc new_feature;
 } state;
 
@@ -43,8 +56,10 @@ PyObject *never_new(PyTypeObject *type, PyObject *words, PyObject *named);
 /* What the calls of the module answer. */
 PyObject *bytes_of(PyObject *tile);
 const uint8_t *content_of(PyObject *bytes, size_t *len);
-int raise_for(const state *of, uint32_t status, const mvt_fault *fault, const uint8_t *bytes, size_t len, PyObject *whole);
-int raise_for_head(const state *of, uint32_t status, const mvt_fault *fault, const uint8_t *head, size_t len, uint64_t size);
+int raise_for(const state *of, uint32_t status, const mvt_fault *fault, const uint8_t *bytes, size_t len,
+              PyObject *whole);
+int raise_for_head(const state *of, uint32_t status, const mvt_fault *fault, const uint8_t *head, size_t len,
+                   uint64_t size);
 int raise_no_tile(const state *of, const mvt_rows_fault *wrong);
 extern PyMethodDef CALLS[], REMARKS_CALLS[], AROUND_CALLS[], SIZES_CALLS[];
 
@@ -58,8 +73,7 @@ typedef struct {
 } list_kind;
 
 typedef struct {
-    PyObject_HEAD
-    state *of;
+    PyObject_HEAD state *of;
     PyObject *owner;
     uint8_t *data;
     Py_ssize_t count, size;
@@ -67,8 +81,7 @@ typedef struct {
 } list;
 
 typedef struct {
-    PyObject_HEAD
-    state *of;
+    PyObject_HEAD state *of;
     PyObject *owner; /* NULL where the row has memory of its own */
     uint8_t *data;
     int kind, is_fixed; /* whether it is a tile's, which nobody changes */
@@ -76,13 +89,11 @@ typedef struct {
 
 /* What is given back by mvt_tile_free. */
 typedef struct {
-    PyObject_HEAD
-    mvt_tile tile;
+    PyObject_HEAD mvt_tile tile;
 } held;
 
 typedef struct {
-    PyObject_HEAD
-    state *of;
+    PyObject_HEAD state *of;
     PyObject *weak;
     PyObject *lists[LISTS];
 } flat;
@@ -154,7 +165,8 @@ PyObject *made_of_rows(const state *of, uint32_t status, mvt_bytes *out, const m
 extern PyMethodDef WRITING_CALLS[];
 
 /* The member that lets weak references to an object be made. */
-#define WEAK_MEMBER(structure) {"__weaklistoffset__", T_PYSSIZET, offsetof(structure, weak), READONLY, NULL}
+#define WEAK_MEMBER(structure)                                                                                         \
+    { "__weaklistoffset__", T_PYSSIZET, offsetof(structure, weak), READONLY, NULL }
 
 /* A function of Python that takes words and named words. */
 #define WITH_WORDS(function) ((PyCFunction)(void (*)(void))(function)), METH_VARARGS | METH_KEYWORDS

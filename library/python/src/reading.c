@@ -11,9 +11,9 @@ enum { AT_A_TIME = 250000, FEW = 10000 };
 typedef struct {
     const state *of;
     const mvt_tile *tile;
-    PyObject **shared; /* SHARED positions from SHARED_FROM on, where they were met; or NULL */
+    PyObject **shared;    /* SHARED positions from SHARED_FROM on, where they were met; or NULL */
     PyObject *thresholds; /* the collector's own, if it ran before, else NULL */
-    uint64_t made;     /* objects that the collector hasn't looked at */
+    uint64_t made;        /* objects that the collector hasn't looked at */
 } reader;
 
 /* Has the collector look at the objects that are new. */
@@ -203,11 +203,13 @@ static PyObject *features_of(reader *from, const mvt_layer *row) {
 static PyObject *layer_of(reader *from, const mvt_layer *row) {
     if (row->version != 2) {
         const char *bytes = row->bytes.len == 0 ? "" : (const char *)from->tile->texts + row->bytes.start;
-        return PyObject_CallFunction(from->of->foreign, "ky#", (unsigned long)row->version, bytes, (Py_ssize_t)row->bytes.len);
+        return PyObject_CallFunction(from->of->foreign, "ky#", (unsigned long)row->version, bytes,
+                                     (Py_ssize_t)row->bytes.len);
     }
     PyObject *name = text_read(from->tile, row->name), *features = name == NULL ? NULL : features_of(from, row);
     PyObject *made = NULL;
-    if (features != NULL) made = PyObject_CallFunction(from->of->layer, "OkO", name, (unsigned long)row->extent, features);
+    if (features != NULL)
+        made = PyObject_CallFunction(from->of->layer, "OkO", name, (unsigned long)row->extent, features);
     Py_XDECREF(features);
     Py_XDECREF(name);
     return made;
@@ -283,10 +285,8 @@ static int read_rows(const state *of, PyObject *given, unsigned long long most, 
     size_t len;
     const uint8_t *bytes = content_of(tile, &len);
     uint32_t status;
-    Py_BEGIN_ALLOW_THREADS
-    status = mvt_read(bytes, len, most, out, &fault);
-    Py_END_ALLOW_THREADS
-    const int failed = raise_for(of, status, &fault, bytes, len, tile);
+    Py_BEGIN_ALLOW_THREADS status = mvt_read(bytes, len, most, out, &fault);
+    Py_END_ALLOW_THREADS const int failed = raise_for(of, status, &fault, bytes, len, tile);
     Py_DECREF(tile);
     return failed;
 }
@@ -327,10 +327,8 @@ static PyObject *layer_named(const state *of, PyObject *tile, PyObject *name, Py
     named.data = content_of(encoded_name, &named.len);
     const uint8_t *bytes = content_of(tile, &len);
     uint32_t status;
-    Py_BEGIN_ALLOW_THREADS
-    status = mvt_read_layer(bytes, len, named, &out, &fault);
-    Py_END_ALLOW_THREADS
-    PyObject *made = NULL;
+    Py_BEGIN_ALLOW_THREADS status = mvt_read_layer(bytes, len, named, &out, &fault);
+    Py_END_ALLOW_THREADS PyObject *made = NULL;
     if (status == MVT_NO_LAYER) {
         PyObject *why = PyObject_CallFunctionObjArgs(of->no_layer, name, NULL);
         if (why != NULL) PyErr_SetObject(of->no_layer, why);
@@ -359,7 +357,8 @@ static PyObject *read_layer(PyObject *module, PyObject *words, PyObject *named) 
 
 PyMethodDef READING_CALLS[] = {
     {"read", WITH_WORDS(read_tile),
-     "read" WITHIN "A tile as plain objects. Raises Refused, and MemoryError where its flat rows would have more bytes\n"
+     "read" WITHIN
+     "A tile as plain objects. Raises Refused, and MemoryError where its flat rows would have more bytes\n"
      "than `most`."},
     {"rows", WITH_WORDS(rows),
      "rows" WITHIN "A tile as flat rows, for numpy and for tiles with many features. Raises Refused, and MemoryError\n"

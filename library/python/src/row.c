@@ -8,17 +8,22 @@ typedef struct {
     char kind;
 } field;
 
-#define KIND_OF(structure, name) \
-    _Generic(((structure *)0)->name, uint32_t: 'I', uint64_t: 'Q', int32_t: 'i', mvt_span: 'S')
-#define FIELD(structure, name) {#name, offsetof(structure, name), KIND_OF(structure, name)}
+#define KIND_OF(structure, name)                                                                                       \
+    _Generic(((structure *)0)->name, uint32_t : 'I', uint64_t : 'Q', int32_t : 'i', mvt_span : 'S')
+#define FIELD(structure, name)                                                                                         \
+    { #name, offsetof(structure, name), KIND_OF(structure, name) }
 
 static const field SPAN_FIELDS[] = {FIELD(mvt_span, start), FIELD(mvt_span, len), {NULL, 0, 0}};
 static const field LAYER_FIELDS[] = {
     FIELD(mvt_layer, version), FIELD(mvt_layer, extent), FIELD(mvt_layer, name),  FIELD(mvt_layer, features),
     FIELD(mvt_layer, keys),    FIELD(mvt_layer, values), FIELD(mvt_layer, bytes), {NULL, 0, 0}};
-static const field FEATURE_FIELDS[] = {
-    FIELD(mvt_feature, id),   FIELD(mvt_feature, has_id), FIELD(mvt_feature, kind),
-    FIELD(mvt_feature, tags), FIELD(mvt_feature, parts),  FIELD(mvt_feature, integers), {NULL, 0, 0}};
+static const field FEATURE_FIELDS[] = {FIELD(mvt_feature, id),
+                                       FIELD(mvt_feature, has_id),
+                                       FIELD(mvt_feature, kind),
+                                       FIELD(mvt_feature, tags),
+                                       FIELD(mvt_feature, parts),
+                                       FIELD(mvt_feature, integers),
+                                       {NULL, 0, 0}};
 static const field VALUE_FIELDS[] = {
     FIELD(mvt_value, kind), FIELD(mvt_value, bits), FIELD(mvt_value, text), {NULL, 0, 0}};
 static const field PART_FIELDS[] = {FIELD(mvt_part, exterior), FIELD(mvt_part, points), {NULL, 0, 0}};
@@ -50,7 +55,8 @@ static char *write_format(char *to, const field *fields, size_t size) {
     to += sprintf(to, "T{");
     for (; fields->name != NULL; ++fields) {
         if (fields->at != at) to += sprintf(to, "%zux", fields->at - at);
-        to = fields->kind == 'S' ? write_format(to, SPAN_FIELDS, sizeof(mvt_span)) : to + sprintf(to, "=%c", fields->kind);
+        to = fields->kind == 'S' ? write_format(to, SPAN_FIELDS, sizeof(mvt_span))
+                                 : to + sprintf(to, "=%c", fields->kind);
         to += sprintf(to, ":%s:", fields->name);
         at = fields->at + field_size(fields);
     }

@@ -7,8 +7,8 @@ enum { MOST_NAMED = 256, MOST_OF_NAME = 200 };
 
 typedef struct {
     const mvt_tile *tile;
-    uint64_t *keys;       /* of each key of the tile, the bytes that it costs in its layer */
-    uint8_t *is_counted;  /* of each value of the tile, whether a key has it */
+    uint64_t *keys;      /* of each key of the tile, the bytes that it costs in its layer */
+    uint8_t *is_counted; /* of each value of the tile, whether a key has it */
 } measuring;
 
 typedef struct {
@@ -23,13 +23,9 @@ static uint64_t of_number(uint64_t number) {
 }
 
 /* The bytes of a field of a number below 16 that has so many bytes. */
-static uint64_t of_field(uint64_t bytes) {
-    return 1 + of_number(bytes) + bytes;
-}
+static uint64_t of_field(uint64_t bytes) { return 1 + of_number(bytes) + bytes; }
 
-static uint64_t of_signed(int64_t number) {
-    return of_number(((uint64_t)number << 1) ^ (number < 0 ? UINT64_MAX : 0));
-}
+static uint64_t of_signed(int64_t number) { return of_number(((uint64_t)number << 1) ^ (number < 0 ? UINT64_MAX : 0)); }
 
 static uint64_t of_value(const mvt_value *value) {
     switch (value->kind) {
@@ -149,8 +145,10 @@ static PyObject *layer_told(measuring *of, size_t at) {
     const sizes found = measure_layer(of, layer);
     const int is_named = layer->version == 2 && at < MOST_NAMED;
     PyObject *name = Py_None, *keys = is_named ? keys_told(of, layer->keys) : PyList_New(0);
-    if (is_named) name = name_told(of->tile, layer->name);
-    else Py_INCREF(name);
+    if (is_named)
+        name = name_told(of->tile, layer->name);
+    else
+        Py_INCREF(name);
     if (name == NULL || keys == NULL) {
         Py_XDECREF(name);
         Py_XDECREF(keys);
@@ -162,7 +160,8 @@ static PyObject *layer_told(measuring *of, size_t at) {
 
 static PyObject *tile_told(const mvt_tile *tile) {
     measuring of = {tile, PyMem_Calloc(tile->key_count + 1, sizeof(uint64_t)), PyMem_Calloc(tile->value_count + 1, 1)};
-    PyObject *told = of.keys == NULL || of.is_counted == NULL ? PyErr_NoMemory() : PyList_New((Py_ssize_t)tile->layer_count);
+    PyObject *told =
+        of.keys == NULL || of.is_counted == NULL ? PyErr_NoMemory() : PyList_New((Py_ssize_t)tile->layer_count);
     for (size_t at = 0; told != NULL && at < tile->layer_count; ++at) {
         PyObject *layer = layer_told(&of, at);
         if (layer == NULL || PyList_SetItem(told, (Py_ssize_t)at, layer) < 0) Py_CLEAR(told);
@@ -184,12 +183,9 @@ static PyObject *measured(PyObject *module, PyObject *words) {
     size_t len;
     const uint8_t *content = content_of(bytes, &len);
     uint32_t status;
-    Py_BEGIN_ALLOW_THREADS
-    status = mvt_read(content, len, most, &tile, &fault);
-    Py_END_ALLOW_THREADS
-    if (status == MVT_OK) {
-        told = tile_told(&tile);
-    } else {
+    Py_BEGIN_ALLOW_THREADS status = mvt_read(content, len, most, &tile, &fault);
+    Py_END_ALLOW_THREADS if (status == MVT_OK) { told = tile_told(&tile); }
+    else {
         told = Py_None;
         Py_INCREF(told);
     }

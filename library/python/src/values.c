@@ -45,7 +45,8 @@ PyObject *value_read(const state *of, const mvt_tile *tile, const mvt_value *row
 /* The name of a value's class, with its module where that isn't Python's own. */
 static PyObject *class_name(PyObject *value) {
     PyObject *class = (PyObject *)Py_TYPE(value);
-    PyObject *module = PyObject_GetAttrString(class, "__module__"), *name = PyObject_GetAttrString(class, "__qualname__");
+    PyObject *module = PyObject_GetAttrString(class, "__module__"),
+             *name = PyObject_GetAttrString(class, "__qualname__");
     PyObject *told = NULL;
     if (module != NULL && name != NULL) {
         const int is_own = PyUnicode_Check(module) && PyUnicode_CompareWithASCIIString(module, "builtins") == 0;
@@ -281,7 +282,8 @@ static int integer_given(PyObject *given, void *to) {
 }
 
 /* What each item of a list is taken as, of so many bytes, in memory that PyMem_Free gives back. */
-static inline int items_given(PyObject *given, size_t size, int (*take)(PyObject *, void *), void **items, size_t *count) {
+static inline int items_given(PyObject *given, size_t size, int (*take)(PyObject *, void *), void **items,
+                              size_t *count) {
     PyObject *sequence = sequence_given(given);
     if (sequence == NULL) return -1;
     const Py_ssize_t length = length_of(sequence);

@@ -18,10 +18,8 @@ static PyObject *written(const state *of, const mvt_tile *rows) {
     mvt_bytes out = {NULL, 0};
     mvt_rows_fault wrong = {0};
     uint32_t status;
-    Py_BEGIN_ALLOW_THREADS
-    status = mvt_write(rows, &out, &wrong);
-    Py_END_ALLOW_THREADS
-    return made_of_rows(of, status, &out, &wrong);
+    Py_BEGIN_ALLOW_THREADS status = mvt_write(rows, &out, &wrong);
+    Py_END_ALLOW_THREADS return made_of_rows(of, status, &out, &wrong);
 }
 
 /* What adds one item of a list to a tile that is built. */
@@ -75,7 +73,8 @@ static int add_item(building *to, PyObject *item, Py_ssize_t number) {
     PyObject *pair = PySequence_Tuple(item);
     int status = -1;
     if (pair != NULL && PyTuple_Size(pair) != 2) PyErr_SetString(PyExc_ValueError, "an attribute is a key and a value");
-    if (pair != NULL && PyTuple_Size(pair) == 2) status = build_tag(to, PyTuple_GetItem(pair, 0), PyTuple_GetItem(pair, 1));
+    if (pair != NULL && PyTuple_Size(pair) == 2)
+        status = build_tag(to, PyTuple_GetItem(pair, 0), PyTuple_GetItem(pair, 1));
     Py_XDECREF(pair);
     return status;
 }

@@ -85,7 +85,9 @@ def archive(tiles, leaf=None, internal=1, packed=1, deep=False, addressed=None, 
     zooms = [place[0] for place in tiles] or [0]
     first, last = (said or {}).get("minzoom", min(zooms)), (said or {}).get("maxzoom", max(zooms))
     bounds = [round(each * 10**7) for each in (said or {}).get("bounds", (0, 0, 0, 0))]
-    head = HEADER.pack(b"PMTiles", 3, *sections, count, len(entries), len(entries), 1, internal, packed, 1, first, last, *bounds, 0, 0)
+    head = HEADER.pack(
+        b"PMTiles", 3, *sections, count, len(entries), len(entries), 1, internal, packed, 1, first, last, *bounds, 0, 0
+    )
     assert len(head) >= 127
     return head[:127] + content + metadata + leaves + data
 

@@ -55,9 +55,13 @@ def make_mbtiles(path, tiles, kind="table", form="pbf"):
             database.execute("insert into metadata values ('format', ?)", (form,))
         if kind == "view":
             database.execute("create table images (tile_id text primary key, tile_data blob)")
-            database.execute("create table map (zoom_level integer, tile_column integer, tile_row integer, tile_id text)")
+            database.execute(
+                "create table map (zoom_level integer, tile_column integer, tile_row integer, tile_id text)"
+            )
             database.execute("create unique index map_index on map (zoom_level, tile_column, tile_row)")
-            database.execute("create view tiles as select zoom_level, tile_column, tile_row, tile_data from map join images using (tile_id)")
+            database.execute(
+                "create view tiles as select zoom_level, tile_column, tile_row, tile_data from map join images using (tile_id)"
+            )
         else:
             end = "without rowid" if kind == "keys" else ""
             database.execute(
@@ -94,7 +98,12 @@ def packings(tile):
 def start(*words, **how):
     """A run of the command, in a session of its own, so that Ctrl-C can be sent to all of it."""
     return subprocess.Popen(
-        [*AUDIT, *map(str, words)], stdout=subprocess.PIPE, stderr=subprocess.PIPE, text=True, start_new_session=True, **how
+        [*AUDIT, *map(str, words)],
+        stdout=subprocess.PIPE,
+        stderr=subprocess.PIPE,
+        text=True,
+        start_new_session=True,
+        **how,
     )
 
 
@@ -142,4 +151,22 @@ class Case(unittest.TestCase):
         self.assertEqual(error.count("\n"), 1, error)
 
 
-__all__ = ["AUDIT", "EVIDENCE", "FOUND", "Case", "audit", "at_places", "example_tiles", "files", "held", "json", "make_mbtiles", "make_tree", "packings", "rows", "said_by_program", "signal", "start"]
+__all__ = [
+    "AUDIT",
+    "EVIDENCE",
+    "FOUND",
+    "Case",
+    "audit",
+    "at_places",
+    "example_tiles",
+    "files",
+    "held",
+    "json",
+    "make_mbtiles",
+    "make_tree",
+    "packings",
+    "rows",
+    "said_by_program",
+    "signal",
+    "start",
+]

@@ -11,6 +11,7 @@ if os.environ.get("PYTHONPATH"):
     os.environ["PYTHONPATH"] = os.pathsep.join(map(os.path.abspath, os.environ["PYTHONPATH"].split(os.pathsep)))
 sys.path.insert(0, str(Path(__file__).parent))
 
+
 @pytest.fixture
 def store(tmp_path):
     """A folder of a good, a refused and an empty tile."""

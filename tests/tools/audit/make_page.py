@@ -26,8 +26,14 @@ def make(folder):
     # a whole tile in front of each broken one, so that there is something to see
     stored = [tiles["gdal"] + tile if len(tile) < 1000 else gzip.compress(tile) for tile in tiles.values()]
     stored += [gzip.compress(tiles["gdal"])[:-9], b"", *hostile()]
-    places = {**at_places(stored, z=4), **at_places([tiles["gdal"]] * 3, z=2), **at_places(map(EVIDENCE.get, FOUND), z=5)}
-    places.update(((14, 8529 + x, 5975 + y), stored[(7 * x + y) % len(stored)]) for x in range(40) for y in range(25) if x % 9)
+    places = {
+        **at_places(stored, z=4),
+        **at_places([tiles["gdal"]] * 3, z=2),
+        **at_places(map(EVIDENCE.get, FOUND), z=5),
+    }
+    places.update(
+        ((14, 8529 + x, 5975 + y), stored[(7 * x + y) % len(stored)]) for x in range(40) for y in range(25) if x % 9
+    )
     make_mbtiles(folder / "town & <b>country.mbtiles", places)
     status, out, error = audit(folder / "town & <b>country.mbtiles", "--into", folder / "audit")
     assert status == 1 and not error, (status, error)

@@ -39,7 +39,10 @@ class Agree(Case):
         self.assertEqual(json.loads(out)["tiles"], 3 * len(stored))
         wanted = {place: self.expected(name) for place, name in zip(placed, names)}
         for path in (tree, base, self.room / "list.txt"):
-            found = {row[:3]: row[3:] for row in rows(self.into, f"select z, x, y, {COLUMNS} from tiles where store = ?", str(path))}
+            found = {
+                row[:3]: row[3:]
+                for row in rows(self.into, f"select z, x, y, {COLUMNS} from tiles where store = ?", str(path))
+            }
             self.assertEqual(set(found), set(wanted))
             for place, row in wanted.items():
                 self.assertEqual(found[place], row, f"{path}: {names[list(placed).index(place)]}")
@@ -64,8 +67,16 @@ class Agree(Case):
         make_mbtiles(self.room / "a.mbtiles", at_places(tiles.values()))
         audit(self.room / "a.mbtiles", "--into", self.into)
         found = rows(self.into, "select layer, layer_name, feature, feature_id from tiles order by x")
-        self.assertEqual(found, [(0, "a", 0, None), (1, "a", None, None), (None, None, None, None),
-                                 (0, "roads", 0, "7"), (0, "a", 0, str(2**64 - 1))])
+        self.assertEqual(
+            found,
+            [
+                (0, "a", 0, None),
+                (1, "a", None, None),
+                (None, None, None, None),
+                (0, "roads", 0, "7"),
+                (0, "a", 0, str(2**64 - 1)),
+            ],
+        )
 
     def test_kinds_that_the_codec_does_not_know(self):
         gdal = self.tiles["gdal"]
@@ -95,7 +106,9 @@ class Help(unittest.TestCase):
     def test_help_fits_a_terminal(self):
         from common import AUDIT
 
-        run = subprocess.run([*AUDIT, "--help"], capture_output=True, text=True, env={"COLUMNS": "80", **__import__("os").environ})
+        run = subprocess.run(
+            [*AUDIT, "--help"], capture_output=True, text=True, env={"COLUMNS": "80", **__import__("os").environ}
+        )
         self.assertEqual(run.returncode, 0)
         self.assertLessEqual(max(map(len, run.stdout.splitlines())), 80)
 

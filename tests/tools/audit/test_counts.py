@@ -73,23 +73,36 @@ def test_a_run_of_good_tiles_counts_its_findings(audited):
     assert told["with_findings"] == 5
     assert told["findings"][0]["tiles"] == 5
     assert told["findings"][0]["example"] == {
-        "store": "/given", "z": 3, "x": 1, "y": 1, "name": None, "lint": "LargeId layer 0 feature 0"
+        "store": "/given",
+        "z": 3,
+        "x": 1,
+        "y": 1,
+        "name": None,
+        "lint": "LargeId layer 0 feature 0",
     }
 
 
 def test_places_that_their_zoom_does_not_have(audited):
     places = [(0, 1, 0), (1, 0, 300), (3, 99999, 0), (9, 1 << 40, -1), (62, -(1 << 63), (1 << 63) - 1), (12, 4096, 0)]
-    tiles = [(Address(*place, "a name"), BROKEN) for place in places] + [(Address(1, 1, 1), BROKEN), (Address(12, 4095, 4095), BROKEN)]
+    tiles = [(Address(*place, "a name"), BROKEN) for place in places] + [
+        (Address(1, 1, 1), BROKEN),
+        (Address(12, 4095, 4095), BROKEN),
+    ]
     results, told, lines, report = audited(tiles)
     assert told["tiles"] == 8
     assert told["beyond_zooms"] == [{"z": z, "tiles": 1} for z in (0, 1, 3, 9, 12, 62)]
     assert "6 tiles stand at places that their zoom doesn't have, by zoom: 0 1, 1 1, 3 1, 9 1, 12 1, 62 1" in lines
     assert "6 tiles stand at places that their zoom doesn't have; they are on no map." in report
-    found = {row[:3] for row in results.database.execute("select z, x, y, name from tiles where name is not null").fetchall()}
+    found = {
+        row[:3] for row in results.database.execute("select z, x, y, name from tiles where name is not null").fetchall()
+    }
     assert found == set(places)
     assert results.database.execute("select z, x, y, tiles, broken from cells").fetchall() == [(12, 255, 255, 1, 1)]
     # maps of the zooms that have a broken tile at a place of theirs
-    assert [title for title in ("Zoom 0:", "Zoom 1:", "Zoom 3:", "Zoom 12:") if f"<figcaption>{title}" in report] == ["Zoom 1:", "Zoom 12:"]
+    assert [title for title in ("Zoom 0:", "Zoom 1:", "Zoom 3:", "Zoom 12:") if f"<figcaption>{title}" in report] == [
+        "Zoom 1:",
+        "Zoom 12:",
+    ]
 
 
 def test_one_place_that_its_zoom_does_not_have(audited):
@@ -98,7 +111,9 @@ def test_one_place_that_its_zoom_does_not_have(audited):
 
 
 def test_good_places_are_not_spoken_of(audited):
-    _, told, lines, report = audited([(Address(0, 0, 0), b""), (Address(30, (1 << 30) - 1, 0), b""), (Address(None, None, None, "a"), b"")])
+    _, told, lines, report = audited(
+        [(Address(0, 0, 0), b""), (Address(30, (1 << 30) - 1, 0), b""), (Address(None, None, None, "a"), b"")]
+    )
     assert told["beyond_zooms"] == []
     assert not any("doesn't have" in line for line in lines)
     assert "doesn't have" not in report

@@ -16,11 +16,15 @@ TILE = libmvt.write(libmvt.Tile([libmvt.Layer("water", 4096, [FEATURE])]))
 # Two tiles at the middle of the world, and what is true of them.
 TILES = {(2, 1, 1): TILE, (3, 3, 3): TILE}
 TRUE = {
-    "minzoom": 2, "maxzoom": 3, "bounds": [-90, 0, 0, 66],
+    "minzoom": 2,
+    "maxzoom": 3,
+    "bounds": [-90, 0, 0, 66],
     "vector_layers": [{"id": "water", "fields": {"name": "String", "depth": "Number"}}],
 }
 OTHER = {
-    "minzoom": 0, "maxzoom": 5, "bounds": [100, -60, 170, -50],
+    "minzoom": 0,
+    "maxzoom": 5,
+    "bounds": [100, -60, 170, -50],
     "vector_layers": [{"id": "roads"}, {"id": "water", "fields": {"name": "String"}}],
 }
 SAID = [
@@ -75,13 +79,21 @@ def test_a_layer_that_is_not_named(tmp_path):
 @pytest.mark.parametrize(
     "said",
     [
-        {"json": "{"}, {"json": "[" * 100_000}, {"minzoom": "a", "maxzoom": "b"}, {"bounds": "1,2,3"}, {"bounds": "1,2,3,nan"},
-        {"vector_layers": 5}, {"vector_layers": [{}]},
+        {"json": "{"},
+        {"json": "[" * 100_000},
+        {"minzoom": "a", "maxzoom": "b"},
+        {"bounds": "1,2,3"},
+        {"bounds": "1,2,3,nan"},
+        {"vector_layers": 5},
+        {"vector_layers": [{}]},
     ],
 )
 def test_a_description_of_another_form_is_one_line(said, tmp_path):
     with closing(sqlite3.connect(make_mbtiles(tmp_path / "a.mbtiles", TILES))) as database, database:
-        database.executemany("insert into metadata values (?, ?)", ((name, str(text)) for name, text in said.items() if name != "vector_layers"))
+        database.executemany(
+            "insert into metadata values (?, ?)",
+            ((name, str(text)) for name, text in said.items() if name != "vector_layers"),
+        )
         if "vector_layers" in said:
             database.execute("insert into metadata values ('json', ?)", (json.dumps(said),))
     status, out, error = audit(tmp_path / "a.mbtiles", "--into", tmp_path / "audit")

@@ -10,7 +10,20 @@ from pathlib import Path
 from unittest.mock import patch
 
 import archives
-from common import EVIDENCE, FOUND, TOP, Case, at_places, audit, example_tiles, json, make_mbtiles, make_tree, packings, rows
+from common import (
+    EVIDENCE,
+    FOUND,
+    TOP,
+    Case,
+    at_places,
+    audit,
+    example_tiles,
+    json,
+    make_mbtiles,
+    make_tree,
+    packings,
+    rows,
+)
 from evidence import layer, line, point, tile
 from wire import field
 from libmvt import Finding
@@ -23,9 +36,7 @@ KINDS = ("ZeroExtent", "NoGeometry", "UnknownGeometry", "FarPoint", "LargeId", "
 FAR = line((1024, 1024), (16384, 1024), (20000, 3072))
 # Two layers: in the first a far line, a good one and two without geometry, in the second a far point with a large id.
 SEVERAL = layer("a", [FAR, line((0, 0), (1, 1)), b"", b""]) + layer("b", [field(1, 2**53) + point(0, -20000)])
-SEVERAL_SAID = (
-    "FarPoint layer 0 feature 0 position 16384 1024; NoGeometry layer 0 feature 2; LargeId layer 1 feature 0"
-)
+SEVERAL_SAID = "FarPoint layer 0 feature 0 position 16384 1024; NoGeometry layer 0 feature 2; LargeId layer 1 feature 0"
 
 
 def evidence():
@@ -46,8 +57,12 @@ class Stores(Case):
             into = self.room / f"of {store}"
             status, out, error = audit(self.room / store, "--into", into, "--part", 7, "--json")
             self.assertEqual((status, error), (0, ""), store)
-            found = {row[:3]: row[3:] for row in rows(into, "select z, x, y, verdict, findings, lint, cause from tiles")}
-            wanted = {place: ("accepted", int(name in FOUND), FOUND.get(name, ""), None) for place, name in names.items()}
+            found = {
+                row[:3]: row[3:] for row in rows(into, "select z, x, y, verdict, findings, lint, cause from tiles")
+            }
+            wanted = {
+                place: ("accepted", int(name in FOUND), FOUND.get(name, ""), None) for place, name in names.items()
+            }
             self.assertEqual(found, wanted, store)
             self.counted(into, names)
             self.told(json.loads(out), self.room / store, names)
@@ -85,20 +100,28 @@ class Stores(Case):
         self.assertEqual(re.findall('id="finding-([A-Za-z]+)"', page), [kind for kind, _ in by_tiles(FOUND.values())])
         for kind, tiles in by_tiles(FOUND.values()):
             self.assertIn(f'id="finding-{kind}">{kind}: {tiles} tile', page)
-            place, lint = min((place, FOUND[name]) for place, name in names.items() if FOUND.get(name, "").startswith(kind))
+            place, lint = min(
+                (place, FOUND[name]) for place, name in names.items() if FOUND.get(name, "").startswith(kind)
+            )
             self.assertIn("<h4>%d/%d/%d, layer 0 “a”" % place, page)
             self.assertIn(f"<code>{lint}</code>", page)
         self.assertIn("feature 0 (id 9007199254740992)", page)
 
     def test_lines_of_the_summary(self):
-        make_tree(self.room / "tree", at_places([EVIDENCE[name] for name in ("no-geometry", "no-finding", "large-id", "far-point-alone")]))
+        make_tree(
+            self.room / "tree",
+            at_places([EVIDENCE[name] for name in ("no-geometry", "no-finding", "large-id", "far-point-alone")]),
+        )
         make_tree(self.room / "tree", at_places([SEVERAL], z=2))
         status, out, _ = audit(self.room / "tree", "--into", self.into)
         self.assertEqual(status, 0)
         lines = out.splitlines()
         self.assertEqual(len(lines), 14)
         self.assertEqual(lines[3], "4 with findings, which break no rule: FarPoint 2, LargeId 2, NoGeometry 2")
-        self.assertEqual(lines[9], "with findings, by zoom: 5 3, 2 1; such as FarPoint in 2/0/0, LargeId in 2/0/0, NoGeometry in 2/0/0")
+        self.assertEqual(
+            lines[9],
+            "with findings, by zoom: 5 3, 2 1; such as FarPoint in 2/0/0, LargeId in 2/0/0, NoGeometry in 2/0/0",
+        )
 
     def test_good_tiles_without_findings(self):
         make_tree(self.room / "tree", at_places([EVIDENCE["no-finding"], example_tiles()["gdal"], b""]))
@@ -106,7 +129,9 @@ class Stores(Case):
         self.assertEqual((status, len(out.splitlines())), (0, 13))
         self.assertRegex(out, "(?m)^0 with findings$")
         self.assertEqual(rows(self.into, "select findings, lint from tiles"), [(0, "")] * 3)
-        self.assertNotIn("finding", re.sub("<style>.*</style>", "", (self.into / "report.html").read_text(), flags=re.DOTALL))
+        self.assertNotIn(
+            "finding", re.sub("<style>.*</style>", "", (self.into / "report.html").read_text(), flags=re.DOTALL)
+        )
 
     def test_broken_tiles_have_none(self):
         broken = example_tiles()["20-ZeroSegment"]
@@ -123,7 +148,9 @@ class Stores(Case):
         (self.room / "list.txt").write_text("large-number.mvt\nlarge-id.mvt\nlarge-number.mvt\n")
         status, out, _ = audit(self.room / "list.txt", "--into", self.into)
         self.assertEqual(status, 0)
-        self.assertIn("with findings, by zoom: - 3; such as LargeNumber in large-number.mvt, LargeId in large-id.mvt\n", out)
+        self.assertIn(
+            "with findings, by zoom: - 3; such as LargeNumber in large-number.mvt, LargeId in large-id.mvt\n", out
+        )
         self.assertIn("No zoom: 2 tiles.", (self.into / "report.html").read_text())
 
     def test_older_results_are_told(self):
@@ -151,12 +178,25 @@ class Tiles(unittest.TestCase):
 
     def test_beside_notes(self):
         row = self.row(layer("a", [b""]) + layer("b", []))
-        self.assertEqual(row[4:], Row(*[None] * 4, 1, "accepted", row.bytes, notes="NoFeatures layer 1", findings=1, lint="NoGeometry layer 0 feature 0")[4:])
+        self.assertEqual(
+            row[4:],
+            Row(
+                *[None] * 4,
+                1,
+                "accepted",
+                row.bytes,
+                notes="NoFeatures layer 1",
+                findings=1,
+                lint="NoGeometry layer 0 feature 0",
+            )[4:],
+        )
 
     def test_large_tiles_are_looked_at(self):
         # an unknown field makes it large
         row = self.row(gzip.compress(tile([b""]) + field(14, bytes(20_000_000))))
-        self.assertEqual((row.verdict, row.notes, row.findings, row.lint), ("accepted", "", 1, "NoGeometry layer 0 feature 0"))
+        self.assertEqual(
+            (row.verdict, row.notes, row.findings, row.lint), ("accepted", "", 1, "NoGeometry layer 0 feature 0")
+        )
 
     def test_the_dearest_tile_takes_bounded_memory(self):
         # each feature is two bytes, and has a finding
@@ -182,7 +222,9 @@ class Tiles(unittest.TestCase):
 
         judge = Judge()
         judge._look = look
-        self.assertEqual(judge(SEVERAL), Said("accepted", len(SEVERAL), notes="what else is to be said of it takes too much memory"))
+        self.assertEqual(
+            judge(SEVERAL), Said("accepted", len(SEVERAL), notes="what else is to be said of it takes too much memory")
+        )
 
 
 class Blocks(Case):
@@ -196,21 +238,29 @@ class Blocks(Case):
                 results.begin([store], [store.state()], 10)
                 results.add(order)
                 tables.append(results.database.execute("select * from finding_examples order by finding").fetchall())
-        self.assertEqual(tables[0], [
-            (store.path, 6, "FarPoint", 0, 1, None, SEVERAL_SAID.split("; ")[0], 0, 0),  # the 65th tile
-            (store.path, 6, "LargeId", 0, 0, None, "LargeId layer 0 feature 0", 0, 0),
-            (store.path, 6, "NoGeometry", 0, 1, None, SEVERAL_SAID.split("; ")[1], 0, 2),
-        ])
+        self.assertEqual(
+            tables[0],
+            [
+                (store.path, 6, "FarPoint", 0, 1, None, SEVERAL_SAID.split("; ")[0], 0, 0),  # the 65th tile
+                (store.path, 6, "LargeId", 0, 0, None, "LargeId layer 0 feature 0", 0, 0),
+                (store.path, 6, "NoGeometry", 0, 1, None, SEVERAL_SAID.split("; ")[1], 0, 2),
+            ],
+        )
         self.assertEqual(tables[1:], tables[:1] * 2)
 
 
 class Words(unittest.TestCase):
     def test_what_happens_in_which_viewer_is_as_the_documents_have_it(self):
-        table = re.findall(r"^\| `lint (\w+).*?` \| (.*) \| (.*) \|$", Path(TOP, "docs", "PROGRAM.md").read_text(), re.MULTILINE)
+        table = re.findall(
+            r"^\| `lint (\w+).*?` \| (.*) \| (.*) \|$", Path(TOP, "docs", "PROGRAM.md").read_text(), re.MULTILINE
+        )
         self.assertEqual([kind for kind, _, _ in table], list(KINDS))
         for kind, when, happens in table:
             self.assertEqual(Finding(kind, 0).explanation.lower(), f"{when}. {happens}.".lower())
-        self.assertEqual(Finding("NoGeometry", 0).explanation, "A feature of unknown type has no integers. A line layer of Mapbox GL ends the whole viewer.")
+        self.assertEqual(
+            Finding("NoGeometry", 0).explanation,
+            "A feature of unknown type has no integers. A line layer of Mapbox GL ends the whole viewer.",
+        )
 
 
 if __name__ == "__main__":

@@ -32,8 +32,14 @@ def standing_line(length):
 def of_names(letters, count=1):
     """A good and a refused tile with names of so many letters: a layer's, and those of so many keys."""
     keys = [(f"{at:03}" + "k" * letters) for at in range(count)]
-    good = libmvt.write(libmvt.Tile([libmvt.Layer("n" * letters, 4096, [libmvt.Feature(None, dict.fromkeys(keys, 1), "points", [(1, 1)])])]))
-    broken = field(3, field(15, 2) + field(1, b"n" * letters) + field(2, field(3, 2) + field(4, packed([9, 4, 4, 10, 0, 0]))))
+    good = libmvt.write(
+        libmvt.Tile(
+            [libmvt.Layer("n" * letters, 4096, [libmvt.Feature(None, dict.fromkeys(keys, 1), "points", [(1, 1)])])]
+        )
+    )
+    broken = field(
+        3, field(15, 2) + field(1, b"n" * letters) + field(2, field(3, 2) + field(4, packed([9, 4, 4, 10, 0, 0])))
+    )
     return good, broken
 
 
@@ -48,14 +54,21 @@ def test_a_long_broken_line_takes_less_than_300_MB_of_the_client(tmp_path, lengt
     assert (found.status, found.error) == (1, "")
     assert found.client < 300 * MB
     assert on_disk(tmp_path / "audit") < MB
-    assert "No picture: nothing of the tile can be drawn, or it is too much" in (tmp_path / "audit" / "report.html").read_text()
+    assert (
+        "No picture: nothing of the tile can be drawn, or it is too much"
+        in (tmp_path / "audit" / "report.html").read_text()
+    )
 
 
 def test_a_long_line_is_drawn_where_it_is_broken():
     tile = standing_line(900_000)
     with pytest.raises(libmvt.Refused) as refused:
         libmvt.judge(tile)
-    [near] = [picture for picture in pictures.Album().of_fault(tile, refused.value) if picture.told.startswith("Round the place")]
+    [near] = [
+        picture
+        for picture in pictures.Album().of_fault(tile, refused.value)
+        if picture.told.startswith("Round the place")
+    ]
     assert len(near.svg) < bounds.PICTURE
     assert near.svg.count(" ") > bounds.POINTS
 

@@ -129,8 +129,10 @@ def test_a_view_that_makes_tiles_fills_no_disk(tmp_path):
         database.execute("drop table tiles")
         database.execute("create table n (n integer)")
         database.executemany("insert into n values (?)", ((n,) for n in range(300)))
-        database.execute("create view tiles as select 20 zoom_level, n tile_column, 5 tile_row,"
-                         " cast(zeroblob(1000000) || n as blob) tile_data from n")
+        database.execute(
+            "create view tiles as select 20 zoom_level, n tile_column, 5 tile_row,"
+            " cast(zeroblob(1000000) || n as blob) tile_data from n"
+        )
     error = refused(store, tmp_path / "new.mbtiles", status=3)
     assert "a copy of it has more than" in error
     assert on_disk(tmp_path) < 10 * MB and not (tmp_path / "new.mbtiles.part").exists()
@@ -199,12 +201,17 @@ def test_metadata_of_a_few_bytes_fill_no_disk(tmp_path):
     store = make_mbtiles(tmp_path / "a.mbtiles", at_places([BROKEN, GOOD]))
     with closing(sqlite3.connect(store)) as database, database:
         database.execute("alter table metadata rename to said")
-        database.execute("create view metadata as with recursive n(n) as (select 1 union all select n + 1 from n limit 1000000)"
-                         " select 'name' || n name, zeroblob(16000000) value from n union all select name, value from said")
+        database.execute(
+            "create view metadata as with recursive n(n) as (select 1 union all select n + 1 from n limit 1000000)"
+            " select 'name' || n name, zeroblob(16000000) value from n union all select name, value from said"
+        )
     with in_time():
         found = Watched(store, "--mend", tmp_path / "new.mbtiles")
     assert (found.status, found.error) == (0, "")
-    assert f"metadata aren't in the copy: {store}: its metadata are more than 8,388,608 bytes, or 10,000 rows\n" in found.out
+    assert (
+        f"metadata aren't in the copy: {store}: its metadata are more than 8,388,608 bytes, or 10,000 rows\n"
+        in found.out
+    )
     assert held(tmp_path / "new.mbtiles")[1] == {"name": "a", "format": "pbf"}
     assert on_disk(tmp_path) < MB and found.client < 200 * MB
 
@@ -224,7 +231,9 @@ def test_metadata_of_many_small_values_take_less_than_350_MB_of_the_client(tmp_p
 def test_metadata_that_are_no_text_are_copied_as_they_are(tmp_path):
     store = make_mbtiles(tmp_path / "a.mbtiles", at_places([BROKEN, GOOD]))
     with closing(sqlite3.connect(store)) as database, database:
-        database.execute("insert into metadata values ('name', cast(x'66fc72' as text)), (x'00ff', 7), ('a', null), ('b', 2.5)")
+        database.execute(
+            "insert into metadata values ('name', cast(x'66fc72' as text)), (x'00ff', 7), ('a', null), ('b', 2.5)"
+        )
     mended(store, tmp_path / "new.mbtiles")
     said = "select typeof(name), hex(name), typeof(value), hex(value) from metadata where value is not null"
     found = [_asked(path, said) for path in (store, tmp_path / "new.mbtiles")]
@@ -264,8 +273,11 @@ def a_database(path, made):
 
 
 PLANTED = {
-    "a view that never ends": lambda part: a_database(part, "view copying as with recursive n(n) as (select 1 union all select n"
-                                                     " from n) select n digest, n key, n told from n where n > 1"),
+    "a view that never ends": lambda part: a_database(
+        part,
+        "view copying as with recursive n(n) as (select 1 union all select n"
+        " from n) select n digest, n key, n told from n where n > 1",
+    ),
     "a database": lambda part: a_database(part, "table copying (digest text, key text, told text)"),
     "a file": lambda part: part.write_bytes(b"something"),
     "an empty file": lambda part: part.write_bytes(b""),
@@ -275,7 +287,9 @@ PLANTED = {
     "a link to itself": lambda part: part.symlink_to(part),
     "a folder": lambda part: (_folder(part) / "mine").write_text("mine"),
     "a mark that is no text": lambda part: (_folder(part) / "mark").write_bytes(b"\xff" * 5000),
-    "a mark of a terabyte": lambda part: os.truncate(os.open(_folder(part) / "mark", os.O_CREAT | os.O_WRONLY), 1 << 40),
+    "a mark of a terabyte": lambda part: os.truncate(
+        os.open(_folder(part) / "mark", os.O_CREAT | os.O_WRONLY), 1 << 40
+    ),
     "a mark that is a link": lambda part: (_folder(part) / "mark").symlink_to("/dev/zero"),
     "a mark that is a pipe": lambda part: os.mkfifo(_folder(part) / "mark"),
     "a mark that is a folder": lambda part: (_folder(part) / "mark").mkdir(),
@@ -311,8 +325,12 @@ def test_what_was_begun_and_is_damaged_is_begun_anew(tmp_path):
     opened = stores.opened(str(store))
     state = opened.state()
     for damage in (
-        "drop table copying", "update copying set key = 'x'", "update copying set key = '[1, 2]', told = '[]'",
-        "update copying set key = '{}', told = '5'", "insert into copying select * from copying", "update copying set told = null",
+        "drop table copying",
+        "update copying set key = 'x'",
+        "update copying set key = '[1, 2]', told = '[]'",
+        "update copying set key = '{}', told = '5'",
+        "insert into copying select * from copying",
+        "update copying set told = null",
         "update copying set key = '[\"x\", -1, 2.5, 7, 8, 9]'",
     ):
         shutil.rmtree(tmp_path / "audit", ignore_errors=True)
@@ -401,7 +419,9 @@ def test_two_runs_to_one_copy(tmp_path, kind):
     tiles = at_places([BROKEN, GOOD] * 1500, 9)
     make = make_tree if kind == "folder" else make_mbtiles
     first, second = (make(tmp_path / f"{name}.mbtiles", tiles) for name in ("one", "two"))
-    runs = [start(store, "--into", tmp_path / f"of {store.name}", "--mend", tmp_path / "new") for store in (first, second)]
+    runs = [
+        start(store, "--into", tmp_path / f"of {store.name}", "--mend", tmp_path / "new") for store in (first, second)
+    ]
     told = [(*run.communicate(timeout=300), run.returncode) for run in runs]
     assert sorted(status for *_, status in told) in ([0, 2], [0, 0]), told
     for _, error, status in told:
@@ -471,7 +491,9 @@ def test_ctrl_c_is_heard_while_a_worker_mends():
 
     before = signal.signal(signal.SIGALRM, interrupted)
     try:
-        with closing(mending.Menders(stores.opened(os.path.dirname(__file__)), lambda: engine.workers(1, None, never))) as menders:
+        with closing(
+            mending.Menders(stores.opened(os.path.dirname(__file__)), lambda: engine.workers(1, None, never))
+        ) as menders:
             threading.Timer(2, lambda: os.kill(os.getpid(), signal.SIGALRM)).start()
             with pytest.raises(KeyboardInterrupt):
                 menders([b"a", b"b"])
@@ -489,5 +511,7 @@ def _command(pid):
 
 
 def test_a_tile_that_workers_end_over_stays():
-    with closing(mending.Menders(stores.opened(os.path.dirname(__file__)), lambda: engine.workers(1, None, dies))) as menders:
+    with closing(
+        mending.Menders(stores.opened(os.path.dirname(__file__)), lambda: engine.workers(1, None, dies))
+    ) as menders:
         assert menders([b"a"]) == {b"a": None}

@@ -110,8 +110,9 @@ def test_a_reader_who_leaves(store, tmp_path):
 
 
 def test_an_output_that_takes_nothing(store, tmp_path):
-    for number, how in enumerate(({"preexec_fn": lambda: os.dup2(os.open("/dev/full", os.O_WRONLY), 1)},
-                                  {"preexec_fn": lambda: os.close(1)})):
+    for number, how in enumerate(
+        ({"preexec_fn": lambda: os.dup2(os.open("/dev/full", os.O_WRONLY), 1)}, {"preexec_fn": lambda: os.close(1)})
+    ):
         status, out, error = audit(store, "--into", tmp_path / f"audit {number}", **how)
         assert (status, out) == (3, "")
         assert "output" in one_line(error)
@@ -128,7 +129,9 @@ def test_errors_that_nobody_hears(store, tmp_path):
 
 def test_an_output_of_another_alphabet(store, tmp_path):
     store.rename(tmp_path / "Gewässer")
-    status, out, error = audit(tmp_path / "Gewässer", "--into", tmp_path / "audit", env={**os.environ, "PYTHONIOENCODING": "ascii"})
+    status, out, error = audit(
+        tmp_path / "Gewässer", "--into", tmp_path / "audit", env={**os.environ, "PYTHONIOENCODING": "ascii"}
+    )
     assert (status, error) == (1, "")
     assert r"Gew\xe4sser" in out
 
@@ -232,7 +235,8 @@ def without_extras(tmp_path):
     (tmp_path / "without").mkdir()
     (tmp_path / "without" / "sitecustomize.py").write_text(
         "import importlib.util as util\nfound = util.find_spec\n"
-        "util.find_spec = lambda name, *more: None if name in ('tqdm', 'distributed') else found(name, *more)\n")
+        "util.find_spec = lambda name, *more: None if name in ('tqdm', 'distributed') else found(name, *more)\n"
+    )
     return {**os.environ, "PYTHONPATH": f"{tmp_path / 'without'}{os.pathsep}{os.environ.get('PYTHONPATH', '')}"}
 
 
@@ -243,8 +247,12 @@ def test_a_scheduler_without_dask(store, tmp_path, without_extras):
 
 def test_a_terminal_without_tqdm(large, tmp_path, without_extras):
     ours, theirs = pty.openpty()
-    run = subprocess.Popen([*AUDIT, large, "--into", tmp_path / "audit", "--part", "200"], stdout=subprocess.DEVNULL,
-                           stderr=theirs, env=without_extras)
+    run = subprocess.Popen(
+        [*AUDIT, large, "--into", tmp_path / "audit", "--part", "200"],
+        stdout=subprocess.DEVNULL,
+        stderr=theirs,
+        env=without_extras,
+    )
     os.close(theirs)
     shown = b""
     while True:
@@ -278,7 +286,9 @@ def test_a_signal_in_a_long_call_of_sqlite(tmp_path, signals):
         timer = threading.Timer(0.3, os.kill, [os.getpid(), signal.SIGTERM])
         timer.start()
         with pytest.raises((sqlite3.OperationalError, KeyboardInterrupt)):
-            results.database.execute("with recursive c(x) as (select 1 union all select x + 1 from c) select sum(x) from c").fetchall()
+            results.database.execute(
+                "with recursive c(x) as (select 1 union all select x + 1 from c) select sum(x) from c"
+            ).fetchall()
         assert (signals.number, signals.status()) == (signal.SIGTERM, 143)
         with pytest.raises(KeyboardInterrupt):
             signals.check()
@@ -313,5 +323,9 @@ def test_the_current_folder_may_not_be_entered(store):
         assert (status, error) == (1, "")
         assert out.splitlines()[-1] == f"written: {room}/audit/audit.sqlite, {room}/audit/report.html"
         os.mkdir(f"{room}/shut", 0o755)
-        assert "unable to open database file" in fails(3, f"{room}/store", "--into", f"{room}/shut", preexec_fn=leave, env=env)
-        assert "Permission denied" in fails(3, f"{room}/store", "--into", f"{room}/shut/audit", preexec_fn=leave, env=env)
+        assert "unable to open database file" in fails(
+            3, f"{room}/store", "--into", f"{room}/shut", preexec_fn=leave, env=env
+        )
+        assert "Permission denied" in fails(
+            3, f"{room}/store", "--into", f"{room}/shut/audit", preexec_fn=leave, env=env
+        )

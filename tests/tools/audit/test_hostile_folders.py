@@ -150,7 +150,15 @@ def test_digits_are_those_of_ascii(tmp_path):
 
 def test_zeros_in_front_make_no_second_tile(tmp_path):
     tree = make_tree(tmp_path / "tree", {(1, 0, 0): TILE, (1, 1, 1): TILE, (10, 0, 0): TILE})
-    for name in ("01/0/0", "1/00/0", "1/0/00", "05/0/0", "000001/0/0", "123456789012345678901234567890/0/0", "1/99999999999/0"):
+    for name in (
+        "01/0/0",
+        "1/00/0",
+        "1/0/00",
+        "05/0/0",
+        "000001/0/0",
+        "123456789012345678901234567890/0/0",
+        "1/99999999999/0",
+    ):
         path = tree / f"{name}.mvt"
         path.parent.mkdir(parents=True, exist_ok=True)
         path.write_bytes(TILE)
@@ -170,7 +178,12 @@ def test_a_link_that_leads_nowhere_is_an_unread_row(name, to, tmp_path):
             each.unlink() if each.is_file() else each.rmdir()
     path.symlink_to("nowhere" if to == "nothing" else path.name)
     rows = verdicts(audited(tree))
-    assert rows == {"4/0/0.mvt": "accepted", name: "unread", "6/0/0.mvt": "accepted", **({"5/1/0.mvt": "accepted"} if name != "5" else {})}
+    assert rows == {
+        "4/0/0.mvt": "accepted",
+        name: "unread",
+        "6/0/0.mvt": "accepted",
+        **({"5/1/0.mvt": "accepted"} if name != "5" else {}),
+    }
     assert sorted(str(address) for _, address, _ in listed(tree)) == sorted(rows)
 
 
@@ -190,7 +203,12 @@ def test_a_folder_that_may_not_be_listed_is_an_unread_row(tmp_path, monkeypatch)
     monkeypatch.setattr(os, "listdir", refused(listdir))
     monkeypatch.setattr(os, "open", refused(open_))
     rows = audited(tree)
-    assert verdicts(rows) == {"4/0/0.mvt": "accepted", "5/1": "unread", "5/2/0.mvt": "accepted", "6/0/0.mvt": "accepted"}
+    assert verdicts(rows) == {
+        "4/0/0.mvt": "accepted",
+        "5/1": "unread",
+        "5/2/0.mvt": "accepted",
+        "6/0/0.mvt": "accepted",
+    }
     assert [row.notes for row in rows if row.verdict == "unread"] == ["Permission denied"]
     found = listed(tree)
     assert [str(address) for _, address, _ in found] == list(verdicts(rows))
@@ -198,7 +216,11 @@ def test_a_folder_that_may_not_be_listed_is_an_unread_row(tmp_path, monkeypatch)
         stores.opened(str(tree)).held(found[1][0])
 
 
-@pytest.mark.parametrize("key", [(), (1, 2, 3), (-1,), (1, -1), (1, 2, 3, 4), (1, 2, 3, -1), ("..",), ("5", 0, 0, 0), (1, 2, 3, 0, 0)], ids=short)
+@pytest.mark.parametrize(
+    "key",
+    [(), (1, 2, 3), (-1,), (1, -1), (1, 2, 3, 4), (1, 2, 3, -1), ("..",), ("5", 0, 0, 0), (1, 2, 3, 0, 0)],
+    ids=short,
+)
 def test_a_key_that_is_none_makes_no_path(key, tmp_path):
     tree = make_tree(tmp_path / "tree", {(4, 0, 0): TILE})
     for ask in (stores.opened(str(tree)).held, lambda key: list(stores.opened(str(tree)).since(key))):
@@ -216,9 +238,13 @@ def test_names_with_controls(tmp_path):
 
 
 def test_a_place_beyond_its_zoom_is_a_row(tmp_path):
-    tree = make_tree(tmp_path / "tree", {(0, 1, 0): TILE, (1, 0, 300): b"broken", (3, 99999, 0): TILE, (99, 0, 9999999999): TILE})
+    tree = make_tree(
+        tmp_path / "tree", {(0, 1, 0): TILE, (1, 0, 300): b"broken", (3, 99999, 0): TILE, (99, 0, 9999999999): TILE}
+    )
     rows = {row.name: row[:3] for row in audited(tree)}
-    assert rows["0/1/0.mvt"] == (0, 1, 0) and rows["1/0/300.mvt"] == (1, 0, 300) and rows["3/99999/0.mvt"] == (3, 99999, 0)
+    assert (
+        rows["0/1/0.mvt"] == (0, 1, 0) and rows["1/0/300.mvt"] == (1, 0, 300) and rows["3/99999/0.mvt"] == (3, 99999, 0)
+    )
     assert len(listed(tree)) == len(rows) == 4
 
 
@@ -254,7 +280,20 @@ def test_a_hole_of_a_terabyte_is_no_line(tmp_path):
 
 
 def test_odd_names_in_a_list(tmp_path):
-    names = [b"/dev/zero", b".", b"..", b"/", b"x" * 300, b"x/" * 3000, b"\xff\xfe", b"\x1b[2J", b"~", b"-", b"http://127.0.0.1:1/", b"99/99999999999/1.mvt"]
+    names = [
+        b"/dev/zero",
+        b".",
+        b"..",
+        b"/",
+        b"x" * 300,
+        b"x/" * 3000,
+        b"\xff\xfe",
+        b"\x1b[2J",
+        b"~",
+        b"-",
+        b"http://127.0.0.1:1/",
+        b"99/99999999999/1.mvt",
+    ]
     (tmp_path / "list.txt").write_bytes(b"\n".join(names))
     rows = audited(tmp_path / "list.txt")
     assert [row.verdict for row in rows] == ["unread"] * len(names)
@@ -279,7 +318,18 @@ def with_metadata(folder, content):
     return stores.opened(str(folder))
 
 
-SAID = [b"", b"[", b"null", b"5", b'"a"', b"[" * 100_000, b'{"a":' * 100_000, b"\xff\xfe", b"9" * 5000, b'{"minzoom": ' + b"9" * 5000 + b"}"]
+SAID = [
+    b"",
+    b"[",
+    b"null",
+    b"5",
+    b'"a"',
+    b"[" * 100_000,
+    b'{"a":' * 100_000,
+    b"\xff\xfe",
+    b"9" * 5000,
+    b'{"minzoom": ' + b"9" * 5000 + b"}",
+]
 
 
 @pytest.mark.parametrize("content", SAID, ids=short)
@@ -299,7 +349,12 @@ def test_metadata_of_a_terabyte_in_a_hole(tmp_path):
 
 
 @settings(max_examples=200, deadline=None)
-@given(make.binary(max_size=50) | make.recursive(make.none() | make.floats() | make.integers() | make.text(max_size=5), make.lists).map(json.dumps).map(str.encode))
+@given(
+    make.binary(max_size=50)
+    | make.recursive(make.none() | make.floats() | make.integers() | make.text(max_size=5), make.lists)
+    .map(json.dumps)
+    .map(str.encode)
+)
 def test_any_metadata_are_an_object_or_refused(content):
     with tempfile.TemporaryDirectory() as room:
         try:

@@ -66,9 +66,15 @@ def made(path, statements, rows=()):
     with closing(sqlite3.connect(path)) as database, database:
         for statement in statements:
             database.execute(statement)
-        table = "tiles" if database.execute("select type from sqlite_master where name = 'tiles'").fetchone() == ("table",) else "held"
+        table = (
+            "tiles"
+            if database.execute("select type from sqlite_master where name = 'tiles'").fetchone() == ("table",)
+            else "held"
+        )
         if rows:
-            database.executemany(f"insert into {table} (zoom_level, tile_column, tile_row, tile_data) values (?, ?, ?, ?)", rows)
+            database.executemany(
+                f"insert into {table} (zoom_level, tile_column, tile_row, tile_data) values (?, ?, ?, ?)", rows
+            )
     return path
 
 
@@ -106,7 +112,10 @@ def test_each_row_is_told_once_whatever_its_place(kind, tmp_path):
         assert next(store.since(key))[2] == content
     for z, x, row in GOOD:
         key = store.find(z, x, (1 << z) - 1 - row)
-        assert key is not None and store.held(key) == dict(zip([*GOOD[:3], *ODD, *GOOD[3:]], (data for *_, data in rows)))[z, x, row]
+        assert (
+            key is not None
+            and store.held(key) == dict(zip([*GOOD[:3], *ODD, *GOOD[3:]], (data for *_, data in rows)))[z, x, row]
+        )
 
 
 @pytest.mark.parametrize("kind", TABLES)
@@ -175,7 +184,24 @@ def test_a_text_that_is_no_utf8(tmp_path):
     assert found["\\xff/0/0"] == b"\x1a\x00\xff" and len(found) == len(GOOD) + 1
 
 
-@pytest.mark.parametrize("key", [(), (1,), (1, 2), (1, 2, 3, -1), (1, 2, 3, 4, 5), ("", -1), ("",), ("", "x"), ("x", 0, 0), (2**63, 0, 0), (0, 0, 2**70), (None, 0, 0)], ids=short)
+@pytest.mark.parametrize(
+    "key",
+    [
+        (),
+        (1,),
+        (1, 2),
+        (1, 2, 3, -1),
+        (1, 2, 3, 4, 5),
+        ("", -1),
+        ("",),
+        ("", "x"),
+        ("x", 0, 0),
+        (2**63, 0, 0),
+        (0, 0, 2**70),
+        (None, 0, 0),
+    ],
+    ids=short,
+)
 def test_a_key_that_is_none(key, tmp_path):
     store = stores.opened(str(made(tmp_path / "a.mbtiles", TABLES["indexed"], numbered(GOOD))))
     for ask in (store.held, lambda key: list(store.since(key))):
@@ -183,11 +209,22 @@ def test_a_key_that_is_none(key, tmp_path):
             ask(key)
 
 
-_VALUES = make.none() | make.integers(-(2**63), 2**63 - 1) | make.integers(-1, 3) | make.floats() | make.text(max_size=3) | make.binary(max_size=3)
+_VALUES = (
+    make.none()
+    | make.integers(-(2**63), 2**63 - 1)
+    | make.integers(-1, 3)
+    | make.floats()
+    | make.text(max_size=3)
+    | make.binary(max_size=3)
+)
 
 
 @settings(max_examples=200, deadline=None)
-@given(make.lists(make.tuples(_VALUES, _VALUES, _VALUES, _VALUES), min_size=1, max_size=12), make.sampled_from(["bare", "indexed", "view"]), make.integers(1, 5))
+@given(
+    make.lists(make.tuples(_VALUES, _VALUES, _VALUES, _VALUES), min_size=1, max_size=12),
+    make.sampled_from(["bare", "indexed", "view"]),
+    make.integers(1, 5),
+)
 def test_any_rows_are_told_once(rows, kind, size):
     with tempfile.TemporaryDirectory() as room:
         path = made(Path(room, "a.mbtiles"), TABLES[kind], rows)
@@ -291,7 +328,10 @@ def test_functions_that_take_for_ever_are_not_called(call, tmp_path):
 
 def test_views_of_views_without_number_are_refused(tmp_path):
     statements = [f"create table held ({COLUMNS})", "create view v0 as select * from held"]
-    statements += [f"create view v{number} as select * from v{number - 1} union all select * from v{number - 1}" for number in range(1, 20)]
+    statements += [
+        f"create view v{number} as select * from v{number - 1} union all select * from v{number - 1}"
+        for number in range(1, 20)
+    ]
     path = made(tmp_path / "a.mbtiles", [*statements, "create view tiles as select * from v19"])
     with pytest.raises(StoreError):
         audited(path)
@@ -309,21 +349,32 @@ def rows_or_a_line(path):
         return [], []
 
 
-@pytest.mark.parametrize("size", ["68200000", "900000000", "2000000000", "68200000 + held.zoom_level", "900000000 + held.zoom_level"])
+@pytest.mark.parametrize(
+    "size", ["68200000", "900000000", "2000000000", "68200000 + held.zoom_level", "900000000 + held.zoom_level"]
+)
 def test_data_that_a_view_makes_is_not_made(size, tmp_path, memory):
     before = [f"create table held ({COLUMNS})", "insert into held values (1, 0, 0, null)"]
     path = made(tmp_path / "a.mbtiles", view_of(f"{FIRST} select 1, 0, 0, zeroblob({size}) from held", before))
     rows, found = rows_or_a_line(path)
     assert len(rows) == len(found)
-    assert verdicts(rows) in ({}, {"0/0/0": "accepted", "1/0/1": "unread"}, {"0/0/0": "accepted", "the tiles behind": "unread"})
+    assert verdicts(rows) in (
+        {},
+        {"0/0/0": "accepted", "1/0/1": "unread"},
+        {"0/0/0": "accepted", "the tiles behind": "unread"},
+    )
 
 
-@pytest.mark.parametrize("what", ["zeroblob(900000000)", "cast(zeroblob(400000000 + held.zoom_level) as text)", "cast(zeroblob(60000000) as text)"])
+@pytest.mark.parametrize(
+    "what",
+    ["zeroblob(900000000)", "cast(zeroblob(400000000 + held.zoom_level) as text)", "cast(zeroblob(60000000) as text)"],
+)
 @pytest.mark.parametrize("column", range(3))
 def test_a_place_of_a_gigabyte_is_no_more_than_a_name(what, column, tmp_path, memory):
     values = [what if each == column else "0" for each in range(3)]
     before = [f"create table held ({COLUMNS})", "insert into held values (1, 0, 0, null)"]
-    rows, found = rows_or_a_line(made(tmp_path / "a.mbtiles", view_of(f"{FIRST} select {', '.join(values)}, x'1a00' from held", before)))
+    rows, found = rows_or_a_line(
+        made(tmp_path / "a.mbtiles", view_of(f"{FIRST} select {', '.join(values)}, x'1a00' from held", before))
+    )
     assert all(len(row.name or "") < 500 for row in rows)
     assert len(rows) <= 3 and len(found) <= 3
 
@@ -399,7 +450,9 @@ def test_words_of_a_schema_are_spelled(tmp_path):
     path = made(tmp_path / "a.mbtiles", TABLES["bare"], numbered(GOOD))
     with closing(sqlite3.connect(path)) as database, database:
         database.execute("pragma writable_schema = on")
-        database.execute("update sqlite_master set sql = 'create nothing', name = char(27) || ']0;owned' || char(7) where name = 'tiles'")
+        database.execute(
+            "update sqlite_master set sql = 'create nothing', name = char(27) || ']0;owned' || char(7) where name = 'tiles'"
+        )
     with pytest.raises(StoreError) as why:
         audited(path)
     assert str(why.value).isprintable()
@@ -472,7 +525,11 @@ BOMBS = {
 
 @pytest.mark.parametrize("bomb", BOMBS)
 def test_more_metadata_than_a_copy_takes_are_told(bomb, tmp_path, memory):
-    path = made(tmp_path / "a.mbtiles", [*TABLES["bare"], f"create view metadata (name, value) as {BOMBS[bomb]}"], numbered(GOOD))
+    path = made(
+        tmp_path / "a.mbtiles",
+        [*TABLES["bare"], f"create view metadata (name, value) as {BOMBS[bomb]}"],
+        numbered(GOOD),
+    )
     with pytest.raises(StoreError, match="its metadata are more than 8,388,608 bytes, or 10,000 rows"):
         stores.opened(str(path)).named()
 

@@ -22,8 +22,28 @@ TILES = at_places([EXAMPLES["20-ZeroSegment"], EXAMPLES["gdal"], b""])
 NEARLY = settings(max_examples=60, deadline=None, suppress_health_check=list(HealthCheck))
 
 # Numbers as JSON spells them, that no float or whole number of 64 bits has; the others are such as stores have.
-ODD = ["1e400", "-1e400", "9e999", "1" + "0" * 400, "-1" + "0" * 400, "1" * 5000, "NaN", "Infinity", "-Infinity", "1e308", "-1e308",
-       "1e-400", "18446744073709551616", "9223372036854775808", "-0.0", "0", "5", "255", "256", "1e6"]
+ODD = [
+    "1e400",
+    "-1e400",
+    "9e999",
+    "1" + "0" * 400,
+    "-1" + "0" * 400,
+    "1" * 5000,
+    "NaN",
+    "Infinity",
+    "-Infinity",
+    "1e308",
+    "-1e308",
+    "1e-400",
+    "18446744073709551616",
+    "9223372036854775808",
+    "-0.0",
+    "0",
+    "5",
+    "255",
+    "256",
+    "1e6",
+]
 
 
 class Inline:
@@ -93,14 +113,27 @@ def spelled(value):
 
 
 numbers = make.sampled_from([f"number {each}" for each in ODD]) | make.integers() | make.floats()
-plain = numbers | make.text(max_size=5) | make.booleans() | make.none() | make.sampled_from(["1,2,3,4", "1,2,3,1e400", "\ud800"])
-values = make.recursive(plain, lambda some: make.lists(some, max_size=5) | make.dictionaries(make.text(max_size=3), some, max_size=3))
+plain = (
+    numbers
+    | make.text(max_size=5)
+    | make.booleans()
+    | make.none()
+    | make.sampled_from(["1,2,3,4", "1,2,3,1e400", "\ud800"])
+)
+values = make.recursive(
+    plain, lambda some: make.lists(some, max_size=5) | make.dictionaries(make.text(max_size=3), some, max_size=3)
+)
 layers = make.lists(make.fixed_dictionaries({"id": plain, "fields": values}), max_size=3)
-metadata = make.fixed_dictionaries({}, optional={
-    **{name: plain for name in ("minzoom", "maxzoom", "name", "format", "more")},
-    **{name: make.lists(numbers, min_size=3, max_size=5) | values for name in ("bounds", "center")},
-    "vector_layers": layers | values, "tilestats": values, "json": values,
-})
+metadata = make.fixed_dictionaries(
+    {},
+    optional={
+        **{name: plain for name in ("minzoom", "maxzoom", "name", "format", "more")},
+        **{name: make.lists(numbers, min_size=3, max_size=5) | values for name in ("bounds", "center")},
+        "vector_layers": layers | values,
+        "tilestats": values,
+        "json": values,
+    },
+)
 
 
 @NEARLY
@@ -116,8 +149,14 @@ def test_any_metadata_of_a_folder_and_of_an_archive(run, said):
         check(run, room / "a.pmtiles", room / "of archive")
 
 
-cells = make.integers(-(1 << 63), (1 << 63) - 1) | make.floats() | make.text(max_size=5) | make.binary(max_size=5) | make.none() | \
-    make.sampled_from(ODD)
+cells = (
+    make.integers(-(1 << 63), (1 << 63) - 1)
+    | make.floats()
+    | make.text(max_size=5)
+    | make.binary(max_size=5)
+    | make.none()
+    | make.sampled_from(ODD)
+)
 names = make.sampled_from(["minzoom", "maxzoom", "bounds", "center", "json", "name", "format"]) | cells
 
 
@@ -136,7 +175,9 @@ def test_any_metadata_of_an_mbtiles_file(run, said):
         check(run, store, room)
 
 
-edges = make.sampled_from([0, 1, 2, 126, 127, 128, 255, 1 << 31, 1 << 32, 1 << 40, (1 << 62) - 1, (1 << 63) - 1, 1 << 63, (1 << 64) - 1])
+edges = make.sampled_from(
+    [0, 1, 2, 126, 127, 128, 255, 1 << 31, 1 << 32, 1 << 40, (1 << 62) - 1, (1 << 63) - 1, 1 << 63, (1 << 64) - 1]
+)
 
 
 @NEARLY
@@ -152,7 +193,12 @@ def test_any_numbers_in_the_header_of_an_archive(run, changed):
         check(run, room / "a.pmtiles", room)
 
 
-entries = make.tuples(edges | make.integers(0, 400), edges | make.integers(0, 9), edges | make.integers(0, 3000), edges | make.integers(0, 400))
+entries = make.tuples(
+    edges | make.integers(0, 400),
+    edges | make.integers(0, 9),
+    edges | make.integers(0, 3000),
+    edges | make.integers(0, 400),
+)
 
 
 @NEARLY

@@ -182,7 +182,9 @@ def test_a_directory_has_100_000_entries_at_most_or_one_for_each_byte_of_the_arc
     many = archive(entries(100_001), internal=2)
     assert len(many) < 1000
     for ask in (audited, lambda path: listed(path, most=1)):
-        with pytest.raises(StoreError, match="it has 100,001 entries; 100,000 are the most that are read of such an archive"):
+        with pytest.raises(
+            StoreError, match="it has 100,001 entries; 100,000 are the most that are read of such an archive"
+        ):
             ask(made(many))
     assert slices(made(many, 100_001), 1000)[-1].end == 100_001
 
@@ -198,7 +200,10 @@ def test_all_directories_have_100_000_entries_at_most_or_one_for_each_byte_of_th
     store = stores.opened(str(path))
     assert store.state().tiles == 90_000
     fault = list(store.ranges(1000))[-1][-1]
-    assert (fault.name, fault.why) == ("directories", "they have more than 100,000 entries, the most that are read of such an archive")
+    assert (fault.name, fault.why) == (
+        "directories",
+        "they have more than 100,000 entries, the most that are read of such an archive",
+    )
 
 
 # ---- compressions
@@ -315,7 +320,10 @@ def test_any_directory_is_entries_or_refused(content):
 
 
 @settings(max_examples=200, deadline=None)
-@given(make.lists(make.tuples(*[make.integers(0, 2**64 - 1) | make.integers(0, 50)] * 4), max_size=8), make.integers(0, 2**64 - 1))
+@given(
+    make.lists(make.tuples(*[make.integers(0, 2**64 - 1) | make.integers(0, 50)] * 4), max_size=8),
+    make.integers(0, 2**64 - 1),
+)
 def test_any_entries_are_rows_or_refused(entries, addressed):
     columns = zip(*entries) if entries else ()
     spelled = archives.varint(len(entries)) + b"".join(archives.varint(each) for column in columns for each in column)
@@ -360,9 +368,20 @@ def test_any_metadata_are_an_object_or_refused(content, is_object, internal, hea
 
 
 @settings(max_examples=200, deadline=None)
-@given(make.sampled_from([1, 2, 3, 4]), make.sampled_from([1, 2]), make.integers(0, 999), make.binary(max_size=9), make.booleans())
+@given(
+    make.sampled_from([1, 2, 3, 4]),
+    make.sampled_from([1, 2]),
+    make.integers(0, 999),
+    make.binary(max_size=9),
+    make.booleans(),
+)
 def test_any_change_of_an_archive_is_rows_or_refused(packed, internal, at, put, is_cut):
-    pack = {1: bytes, 2: gzip.compress, 3: pytest.importorskip("brotli").compress, 4: pytest.importorskip("zstandard").compress}[packed]
+    pack = {
+        1: bytes,
+        2: gzip.compress,
+        3: pytest.importorskip("brotli").compress,
+        4: pytest.importorskip("zstandard").compress,
+    }[packed]
     tiles = {(z, 0, 0): pack(TILE * (z + 1)) for z in range(4)}
     whole = archives.archive(tiles, leaf=2, internal=internal, packed=packed, said={"bounds": [0, 0, 1, 1]})
     with tempfile.TemporaryDirectory() as room:
@@ -382,7 +401,9 @@ def test_ids_and_places_are_each_others(number):
     assert id_of(*place_of(number)) == number == archives.tile_id(*place_of(number))
 
 
-@pytest.mark.parametrize("key", [(), (1,), (-1, 0), (1, 2), (1, -1), (PLACES, 0), (2**70, 0), ("0", 0), (None, None), (0, 0, 0)], ids=short)
+@pytest.mark.parametrize(
+    "key", [(), (1,), (-1, 0), (1, 2), (1, -1), (PLACES, 0), (2**70, 0), ("0", 0), (None, None), (0, 0, 0)], ids=short
+)
 def test_a_key_that_is_none(key, made):
     store = stores.opened(str(made(archive([ONE]))))
     store.check()

@@ -85,7 +85,15 @@ def test_a_feature_beyond_the_tile_is_whole_and_the_tile_has_its_edge(x, y):
     assert 'd="M0 0h1v1h-1z"' in picture.svg
     left, top, wide, high = box_of(picture.svg)
     assert wide == high
-    for each, low in ((0, left), (1, left), (x / 4096, left), ((x - 10) / 4096, left), (0, top), (1, top), (y / 4096, top)):
+    for each, low in (
+        (0, left),
+        (1, left),
+        (x / 4096, left),
+        ((x - 10) / 4096, left),
+        (0, top),
+        (1, top),
+        (y / 4096, top),
+    ):
         assert low < each < low + wide
 
 

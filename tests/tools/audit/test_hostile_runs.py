@@ -23,8 +23,18 @@ statistics string struct subprocess tempfile textwrap threading token tokenize t
 unicodedata urllib usercustomize uuid warnings weakref zlib zstandard""".split()
 
 # What `python3 -m` itself imports, from the current folder first, before any module that it is asked for.
-IMPORTED_BY_PYTHON = {"collections", "contextlib", "functools", "importlib", "keyword", "operator", "reprlib", "runpy", "types",
-                      "warnings"}
+IMPORTED_BY_PYTHON = {
+    "collections",
+    "contextlib",
+    "functools",
+    "importlib",
+    "keyword",
+    "operator",
+    "reprlib",
+    "runpy",
+    "types",
+    "warnings",
+}
 if sys.version_info < (3, 11):
     IMPORTED_BY_PYTHON |= {"enum", "heapq", "pkgutil", "re", "typing", "weakref"}
 
@@ -38,7 +48,9 @@ def strangers(folder, names):
     metadata.mkdir()
     (metadata / "METADATA").write_text("Name: evil\nVersion: 1.0\n")
     (metadata / "entry_points.txt").write_text("[mvt_tools.stores]\nevil = evil:opened\n")
-    (folder / "evil.py").write_text(f"open({str(told)!r}, 'a').write('evil ')\ndef opened(path, options):\n    return None\n")
+    (folder / "evil.py").write_text(
+        f"open({str(told)!r}, 'a').write('evil ')\ndef opened(path, options):\n    return None\n"
+    )
     return lambda: told.read_text() if told.exists() else ""
 
 
@@ -46,7 +58,9 @@ def strangers(folder, names):
 def test_nothing_of_the_current_folder_runs(store, tmp_path, words):
     names = NAMES if words is SCRIPT else [name for name in NAMES if name not in IMPORTED_BY_PYTHON]
     told = strangers(store, names)
-    run = subprocess.run([*words, ".", "--into", "../audit", "--workers", "2"], cwd=store, capture_output=True, text=True)
+    run = subprocess.run(
+        [*words, ".", "--into", "../audit", "--workers", "2"], cwd=store, capture_output=True, text=True
+    )
     assert (run.returncode, run.stderr, told()) == (1, "", "")
     assert rows(tmp_path / "audit", "select count(*) from tiles") == [(3,)]
 
@@ -54,21 +68,30 @@ def test_nothing_of_the_current_folder_runs(store, tmp_path, words):
 @pytest.mark.parametrize("name", ["multiprocessing", "socket", "pickle", "struct", "signal"])
 def test_a_module_beside_the_tiles_does_not_run(store, name):
     told = strangers(store, [name])
-    run = subprocess.run([*MODULE, ".", "--into", "../audit", "--workers", "1"], cwd=store, capture_output=True, text=True)
+    run = subprocess.run(
+        [*MODULE, ".", "--into", "../audit", "--workers", "1"], cwd=store, capture_output=True, text=True
+    )
     assert (run.returncode, run.stderr, told()) == (1, "", "")
 
 
 def test_an_empty_entry_of_the_path_is_not_the_current_folder(store):
     told = strangers(store, ["multiprocessing", "socket", "pickle", "brotli", "tqdm", "zstandard"])
     path = os.environ.get("PYTHONPATH", "") + os.pathsep
-    run = subprocess.run([*MODULE, ".", "--into", "../audit", "--workers", "1"], cwd=store, capture_output=True, text=True,
-                         env={**os.environ, "PYTHONPATH": path})
+    run = subprocess.run(
+        [*MODULE, ".", "--into", "../audit", "--workers", "1"],
+        cwd=store,
+        capture_output=True,
+        text=True,
+        env={**os.environ, "PYTHONPATH": path},
+    )
     assert (run.returncode, run.stderr, told()) == (1, "", "")
 
 
 def test_the_folder_that_the_workers_start_in_is_removed(store, tmp_path):
     (tmp_path / "temporary").mkdir()
-    status, _, error = audit(store, "--into", tmp_path / "audit", env={**os.environ, "TMPDIR": str(tmp_path / "temporary")})
+    status, _, error = audit(
+        store, "--into", tmp_path / "audit", env={**os.environ, "TMPDIR": str(tmp_path / "temporary")}
+    )
     assert (status, error, list((tmp_path / "temporary").iterdir())) == (1, "", [])
 
 
@@ -91,7 +114,8 @@ def whole(into, large):
     assert rows(into, "select count(*), sum(tiles) from tiles") == [(wanted, wanted)]
     assert rows(into, "select sum(tiles) from counts") == [(wanted,)]
     assert rows(into, "select count(distinct name) * 1.0 / count(*) * ? from tiles", wanted)[0][0] == len(
-        set(large.read_text().splitlines()))
+        set(large.read_text().splitlines())
+    )
     assert rows(into, "select count(*) - count(distinct part) from parts") == [(0,)]
     assert rows(into, "select max(n) - min(n) from (select count(*) n from tiles group by name)") == [(0,)]
     assert rows(into, "pragma integrity_check") == [("ok",)]

@@ -58,9 +58,11 @@ def contents(address, **options):
 CLOSING = {
     "HTTP/1.0": lambda tile: b"HTTP/1.0 200 OK\r\nContent-Length: %d\r\n\r\n" % len(tile) + tile,
     "HTTP/1.0 without a length": lambda tile: b"HTTP/1.0 200 OK\r\n\r\n" + tile,
-    "Connection: close": lambda tile: b"HTTP/1.1 200 OK\r\nConnection: close\r\nContent-Length: %d\r\n\r\n" % len(tile) + tile,
+    "Connection: close": lambda tile: b"HTTP/1.1 200 OK\r\nConnection: close\r\nContent-Length: %d\r\n\r\n" % len(tile)
+    + tile,
     "close without a length": lambda tile: b"HTTP/1.1 200 OK\r\nConnection: close\r\n\r\n" + tile,
-    "close in chunks": lambda tile: b"HTTP/1.1 200 OK\r\nConnection: close\r\nTransfer-Encoding: chunked\r\n\r\n%x\r\n%s\r\n0\r\n\r\n" % (len(tile), tile),
+    "close in chunks": lambda tile: b"HTTP/1.1 200 OK\r\nConnection: close\r\nTransfer-Encoding: chunked\r\n\r\n%x\r\n%s\r\n0\r\n\r\n"
+    % (len(tile), tile),
 }
 
 
@@ -203,7 +205,11 @@ def test_odd_bounds_are_refused_in_a_line(bounds, serving):
     assert str(why.value).isprintable() and len(str(why.value)) < 300
 
 
-@pytest.mark.parametrize("zooms", [(0, 31), (-1, 2), (3, 2), ("0", 1), (0, None), (0.5, 1), (0, 10**400), ([], {}), (float("nan"), 1)], ids=short)
+@pytest.mark.parametrize(
+    "zooms",
+    [(0, 31), (-1, 2), (3, 2), ("0", 1), (0, None), (0.5, 1), (0, 10**400), ([], {}), (float("nan"), 1)],
+    ids=short,
+)
 def test_odd_zooms_are_refused_in_a_line(zooms, serving):
     with pytest.raises(StoreError) as why:
         told(serving, {**GOOD, "minzoom": zooms[0], "maxzoom": zooms[1]})
@@ -247,9 +253,22 @@ def test_no_redirect_is_followed(serving):
 
 # ---- any TileJSON at all
 
-_LEAVES = make.none() | make.booleans() | make.integers() | make.floats() | make.text(max_size=20) | make.sampled_from(ADDRESSES + GOOD["tiles"])
-_ANY = make.recursive(_LEAVES, lambda inner: make.lists(inner, max_size=5) | make.dictionaries(make.text(max_size=5), inner, max_size=3), max_leaves=8)
-_NAMED = make.fixed_dictionaries({}, optional={name: _ANY for name in ("tiles", "minzoom", "maxzoom", "bounds", "scheme")})
+_LEAVES = (
+    make.none()
+    | make.booleans()
+    | make.integers()
+    | make.floats()
+    | make.text(max_size=20)
+    | make.sampled_from(ADDRESSES + GOOD["tiles"])
+)
+_ANY = make.recursive(
+    _LEAVES,
+    lambda inner: make.lists(inner, max_size=5) | make.dictionaries(make.text(max_size=5), inner, max_size=3),
+    max_leaves=8,
+)
+_NAMED = make.fixed_dictionaries(
+    {}, optional={name: _ANY for name in ("tiles", "minzoom", "maxzoom", "bounds", "scheme")}
+)
 _NEARLY = make.fixed_dictionaries(
     {"tiles": make.lists(make.sampled_from(ADDRESSES + GOOD["tiles"]) | make.text(max_size=20), min_size=1, max_size=2)},
     optional={"minzoom": make.integers(-1, 31), "maxzoom": make.integers(-1, 31), "scheme": make.sampled_from(["tms", "xyz"]),

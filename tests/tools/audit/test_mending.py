@@ -63,7 +63,13 @@ class Mends(Case):
 
     def test_metadata_are_kept(self):
         store = make_mbtiles(self.room / "a.mbtiles", at_places(BROKEN))
-        said = {"format": "pbf", "name": "Lakes – Ω", "json": '{"vector_layers": []}', "maxzoom": "5", "more": "x" * 5000}
+        said = {
+            "format": "pbf",
+            "name": "Lakes – Ω",
+            "json": '{"vector_layers": []}',
+            "maxzoom": "5",
+            "more": "x" * 5000,
+        }
         with closing(sqlite3.connect(store)) as database, database:
             database.execute("delete from metadata")
             database.executemany("insert into metadata values (?, ?)", said.items())
@@ -107,7 +113,9 @@ class Mends(Case):
         status, out, error = audit(store, "--mend", new)
         self.assertEqual((status, error), (1, ""))
         self.assertIn(f"mended: 2 of 5 tiles, in {new}\n", out)
-        self.assertIn("changes, in how many tiles: FeatureLeftOut 1 in 1, TurnedRing 1 in 1\nstill broken: NoName 1\n", out)
+        self.assertIn(
+            "changes, in how many tiles: FeatureLeftOut 1 in 1, TurnedRing 1 in 1\nstill broken: NoName 1\n", out
+        )
         self.assertEqual(rows(self.room / "b.mbtiles.audit", "select count(*) from tiles"), [(5,)])
 
     def test_what_can_be_mended_but_for_another_rule_stays(self):
@@ -151,7 +159,9 @@ class Fails(Case):
 
     def test_it_wants_a_place_for_the_results(self):
         status, _, error = audit(self.room)
-        self.assertEqual((status, error.splitlines()[-1]), (2, "mvt-audit: error: the following arguments are required: --into"))
+        self.assertEqual(
+            (status, error.splitlines()[-1]), (2, "mvt-audit: error: the following arguments are required: --into")
+        )
 
 
 class GoesOn(Case):

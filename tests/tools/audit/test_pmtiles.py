@@ -23,7 +23,10 @@ def many(count=300):
     """Tiles of four zooms, a third of them equal."""
     chance = random.Random(7)
     places = [(z, x, y) for z in range(5) for x in range(1 << z) for y in range(1 << z)]
-    return {place: b"\x1a\x00" if chance.random() < 0.4 else b"tile %d" % number for number, place in enumerate(places[:count])}
+    return {
+        place: b"\x1a\x00" if chance.random() < 0.4 else b"tile %d" % number
+        for number, place in enumerate(places[:count])
+    }
 
 
 def spread(found):
@@ -62,7 +65,13 @@ class Archives(Case):
 
     def test_each_layout(self):
         tiles = many()
-        layouts = [{}, {"leaf": 10}, {"leaf": 10, "internal": 2}, {"leaf": 5, "deep": True}, {"leaf": 7, "addressed": 0}]
+        layouts = [
+            {},
+            {"leaf": 10},
+            {"leaf": 10, "internal": 2},
+            {"leaf": 5, "deep": True},
+            {"leaf": 7, "addressed": 0},
+        ]
         for layout in layouts:
             store, state = self.opened(archives.archive(tiles, **layout))
             self.assertEqual(state.tiles, len(tiles))
@@ -94,11 +103,18 @@ class Archives(Case):
 
     def test_a_run_is_one_row(self):
         places = [place_of(number) for number in range(20)]
-        store, state = self.opened(archives.archive({place: b"\x1a\x00" if 3 <= number < 17 else b"tile" for number, place in enumerate(places)}))
+        store, state = self.opened(
+            archives.archive(
+                {place: b"\x1a\x00" if 3 <= number < 17 else b"tile" for number, place in enumerate(places)}
+            )
+        )
         self.assertEqual(state.tiles, 20)
         for size in (1, 2, 50):
             rows = [(*address, content) for address, content in self.found(store, size)]
-            self.assertEqual(rows, [(0, 0, 0, None, 3, b"tile"), (*places[3], None, 14, b"\x1a\x00"), (*places[17], None, 3, b"tile")])
+            self.assertEqual(
+                rows,
+                [(0, 0, 0, None, 3, b"tile"), (*places[3], None, 14, b"\x1a\x00"), (*places[17], None, 3, b"tile")],
+            )
         # The page has a row for each place.
         self.assertEqual([address[:3] for _, address, _ in store.since(None)], places)
         self.assertEqual([key for key, *_ in store.since((5, 0))][:2], [(5, 0), (6, 0)])
@@ -158,7 +174,16 @@ class Archives(Case):
     def root(self, entries, data=b"x" * 100, leaves=b"", addressed=0):
         """An archive of such a root directory, spelled or as its entries."""
         content = entries if isinstance(entries, bytes) else archives.directory(entries)
-        sections = [127, len(content), 127, 0, 127 + len(content), len(leaves), 127 + len(content) + len(leaves), len(data)]
+        sections = [
+            127,
+            len(content),
+            127,
+            0,
+            127 + len(content),
+            len(leaves),
+            127 + len(content) + len(leaves),
+            len(data),
+        ]
         head = archives.HEADER.pack(b"PMTiles", 3, *sections, addressed, 0, 0, 1, 1, 1, 1, 0, 31, *[0] * 6)
         return head[:127] + content + leaves + data
 
@@ -182,7 +207,9 @@ class Archives(Case):
             [(name, why)] = self.unread(self.root(entries))
             self.assertEqual(name, "directory at 127")
             self.assertRegex(why, pattern)
-        self.assertEqual(self.unread(self.root([(0, 1, 98, 4)])), [("0/0/0", "its bytes end at 102 of 100 bytes of tiles")])
+        self.assertEqual(
+            self.unread(self.root([(0, 1, 98, 4)])), [("0/0/0", "its bytes end at 102 of 100 bytes of tiles")]
+        )
         [(name, why)] = self.unread(self.root([(0, 7, 0, 4)], addressed=6))
         self.assertEqual((name, why), ("directory at 127", "with it the archive has 7 tiles, and its header says 6"))
         [(name, why)] = self.unread(self.root([(0, 7, 0, 4)], addressed=8))
@@ -196,7 +223,10 @@ class Archives(Case):
         found = self.unread(self.root([(5, 0, 0, 60)], leaves=leaf))
         self.assertEqual([why for _, why in found], ["the leaf of tile id 5 ends beyond the 5 bytes of leaves"])
         found = self.unread(self.root([(1, 0, 0, 60), (5, 0, 0, 5)], leaves=leaf))
-        self.assertEqual([why for _, why in found], ["the leaf of tile id 1 ends beyond the 5 bytes of leaves", "it leads in a circle"])
+        self.assertEqual(
+            [why for _, why in found],
+            ["the leaf of tile id 1 ends beyond the 5 bytes of leaves", "it leads in a circle"],
+        )
         found = self.unread(self.root([(4, 0, 0, 5)], leaves=leaf))
         self.assertEqual([why for _, why in found], ["it begins with tile id 5, and the one above says 4"])
         leaf = archives.directory([(5, 1, 0, 6), (9, 1, 0, 6)])

@@ -28,7 +28,9 @@ def check(folder, name):
     assert {each["cause_name"]: str(each["tiles"]) for each in found["causes"]} == causes, found
     assert {note: str(count) for note, count in found["notes"].items()} == notes, found
     assert not found["verdicts"]["not unpacked"] and not found["verdicts"]["unread"], found
-    [(unnamed,)] = rows(folder / f"{name}-audit", "select count(*) from tiles where verdict = 'refused' and layer_name is null")
+    [(unnamed,)] = rows(
+        folder / f"{name}-audit", "select count(*) from tiles where verdict = 'refused' and layer_name is null"
+    )
     assert not unnamed
     assert sum(each["tiles"] for each in found["layers"]) == refused
 

@@ -13,7 +13,10 @@ from wire import field, packed
 
 
 def causes():
-    return [int(cause) for cause in re.findall(r"^\| (\d+) \| \w+ \|", Path(TOP, "docs", "FORMAT.md").read_text(), re.MULTILINE)]
+    return [
+        int(cause)
+        for cause in re.findall(r"^\| (\d+) \| \w+ \|", Path(TOP, "docs", "FORMAT.md").read_text(), re.MULTILINE)
+    ]
 
 
 class Words(unittest.TestCase):
@@ -39,7 +42,13 @@ class Words(unittest.TestCase):
         tiles = [tile[:size] for tile in example_tiles().values() for size in (0, 1, 9, 40) if len(tile) < 10_000]
         for tile in tiles:
             for cause in causes():
-                for layer, feature, at in [(None, None, 0), (0, None, 5), (0, 0, 3), (3, 900, 10**9), (0, 0, 2**63)]:
+                for layer, feature, at in [
+                    (None, None, 0),
+                    (0, None, 5),
+                    (0, 0, 3),
+                    (3, 900, 10**9),
+                    (0, 0, 2**63),
+                ]:
                     pictures.close_up(tile, libmvt.Refused(layer, feature, at, cause, "Name"))
 
 

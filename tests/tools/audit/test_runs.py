@@ -17,7 +17,19 @@ from deadly import Deadly
 from mvt_tools.audit import engine
 from mvt_tools.audit.results import Results
 
-from common import AUDIT, Case, at_places, audit, example_tiles, json, make_mbtiles, make_tree, rows, said_by_program, start
+from common import (
+    AUDIT,
+    Case,
+    at_places,
+    audit,
+    example_tiles,
+    json,
+    make_mbtiles,
+    make_tree,
+    rows,
+    said_by_program,
+    start,
+)
 from processes import until
 
 DASK = {"scheduler": "distributed.cli.dask_scheduler", "worker": "distributed.cli.dask_worker"}
@@ -52,7 +64,9 @@ class Program:
 class Runs(Case):
     def setUp(self):
         super().setUp()
-        tiles = {name: tile for name, tile in example_tiles().items() if len(tile) < 10_000 and not name.endswith("gzip")}
+        tiles = {
+            name: tile for name, tile in example_tiles().items() if len(tile) < 10_000 and not name.endswith("gzip")
+        }
         make_tree(self.room / "tree", at_places(tiles.values()))
         said = said_by_program()
         self.said = {number: said[name] for number, name in enumerate(tiles)}
@@ -60,7 +74,9 @@ class Runs(Case):
 
     def listed(self, times):
         """A list that names each tile so many times."""
-        names = [f"tree/{path.relative_to(self.room / 'tree')}\n" for path in sorted((self.room / "tree").rglob("*.mvt"))]
+        names = [
+            f"tree/{path.relative_to(self.room / 'tree')}\n" for path in sorted((self.room / "tree").rglob("*.mvt"))
+        ]
         (self.room / "list.txt").write_text("".join(names) * times)
         return self.room / "list.txt"
 
@@ -72,8 +88,13 @@ class Runs(Case):
 
     def check_whole(self, times):
         """The results have each tile so many times, with what `mvt check` says of it, and the counts are those."""
-        found = rows(self.into, "select x, y, verdict, layer, feature, place, cause, cause_name, count(*) from tiles group by 1, 2, 3, 4, 5, 6, 7, 8")
-        wanted = {(number % 32, number >> 5, verdict, *fault, times) for number, (verdict, fault, _) in self.said.items()}
+        found = rows(
+            self.into,
+            "select x, y, verdict, layer, feature, place, cause, cause_name, count(*) from tiles group by 1, 2, 3, 4, 5, 6, 7, 8",
+        )
+        wanted = {
+            (number % 32, number >> 5, verdict, *fault, times) for number, (verdict, fault, _) in self.said.items()
+        }
         self.assertEqual(set(found), wanted)
         self.assertEqual(rows(self.into, "select sum(tiles) from counts"), [(times * self.count,)])
         self.assertEqual(rows(self.into, "select count(*) - count(distinct part) from parts"), [(0,)])
@@ -199,7 +220,9 @@ class Runs(Case):
         self.assertEqual(error, "")
         ours, theirs = pty.openpty()
         fcntl.ioctl(theirs, termios.TIOCSWINSZ, struct.pack("HHHH", 24, 100, 0, 0))
-        run = subprocess.Popen([*AUDIT, self.room / "tree", "--into", self.into, "--workers", "1"], stdout=subprocess.PIPE, stderr=theirs)
+        run = subprocess.Popen(
+            [*AUDIT, self.room / "tree", "--into", self.into, "--workers", "1"], stdout=subprocess.PIPE, stderr=theirs
+        )
         run.wait(60)
         os.close(theirs)
         shown = os.read(ours, 100_000).decode()

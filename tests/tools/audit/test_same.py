@@ -49,14 +49,19 @@ class Same(Case):
             status, out, error = audit(store, *words, "--into", into, workers=4)
             self.assertEqual(status, 1, error)
             columns = ", ".join(field for field in Row._fields if field != "name")
-            tables.append((
-                rows(into, f"select {columns} from tiles order by z, x, y"),
-                rows(into, "select z, verdict, cause, cause_name, layer_name, has_findings, tiles from counts order by 1, 2, 3, 4, 5, 6"),
-                rows(into, "select z, note, tiles from note_counts order by 1, 2"),
-                rows(into, "select z, finding, tiles from finding_counts order by 1, 2"),
-                rows(into, "select z, finding, x, y, lint from finding_examples order by 1, 2"),
-                out.splitlines()[1:10],
-            ))
+            tables.append(
+                (
+                    rows(into, f"select {columns} from tiles order by z, x, y"),
+                    rows(
+                        into,
+                        "select z, verdict, cause, cause_name, layer_name, has_findings, tiles from counts order by 1, 2, 3, 4, 5, 6",
+                    ),
+                    rows(into, "select z, note, tiles from note_counts order by 1, 2"),
+                    rows(into, "select z, finding, tiles from finding_counts order by 1, 2"),
+                    rows(into, "select z, finding, x, y, lint from finding_examples order by 1, 2"),
+                    out.splitlines()[1:10],
+                )
+            )
             self.assertEqual(len(tables[-1][0]), COUNT)
         for table in tables[1:]:
             self.assertEqual(table, tables[0])

@@ -50,7 +50,14 @@ class Handler(http.server.BaseHTTPRequestHandler):
 class Server(http.server.ThreadingHTTPServer):
     def __init__(self, answer):
         super().__init__(("127.0.0.1", 0), Handler)
-        self.answer, self.asked, self.lock, self.now, self.most, self.connections = answer, [], threading.Lock(), 0, 0, 0
+        self.answer, self.asked, self.lock, self.now, self.most, self.connections = (
+            answer,
+            [],
+            threading.Lock(),
+            0,
+            0,
+            0,
+        )
         self.address = f"http://127.0.0.1:{self.server_port}"
         threading.Thread(target=self.serve_forever, daemon=True).start()
 
@@ -101,7 +108,9 @@ class Servers(Case):
         return None if content is None else judging.judged(address, content)
 
     def test_the_same_table_as_a_folder(self):
-        tiles = at_places([gzip.compress(tile) for name, tile in example_tiles().items() if name != "04-WireType-gzip"], z=6)
+        tiles = at_places(
+            [gzip.compress(tile) for name, tile in example_tiles().items() if name != "04-WireType-gzip"], z=6
+        )
 
         def answer(path):
             z, x, y = (int(number) for number in path[1:-4].split("/"))
@@ -125,7 +134,10 @@ class Servers(Case):
         self.assertTrue(all(headers["Accept-Encoding"] == "gzip" for _, headers in server.asked))
         page = (self.into / "report.html").read_text()
         self.assertIn(f'<a href="{server.address}/6/', page)
-        self.assertRegex(page, f"mvt-page &#x27;{server.address}/{{z}}/{{x}}/{{y}}.pbf&#x27; 6/[0-9]+/[0-9]+ --zooms 6-6 --requests 6<")
+        self.assertRegex(
+            page,
+            f"mvt-page &#x27;{server.address}/{{z}}/{{x}}/{{y}}.pbf&#x27; 6/[0-9]+/[0-9]+ --zooms 6-6 --requests 6<",
+        )
         status, _, error = audit(*words)
         self.assertIn("all 4,096 tiles are judged already", error)
 
@@ -185,7 +197,9 @@ class Servers(Case):
         held.close()
         status, out, _ = audit(f"http://127.0.0.1:{port}/{{z}}/{{x}}/{{y}}", "--zooms", "0-1", "--into", self.into)
         self.assertEqual(status, 3)
-        self.assertEqual(rows(self.into, "select distinct verdict, notes from tiles"), [("unread", "Connection refused")])
+        self.assertEqual(
+            rows(self.into, "select distinct verdict, notes from tiles"), [("unread", "Connection refused")]
+        )
 
     def test_a_connection_that_was_kept_and_is_gone(self):
         def once(handler):
@@ -199,7 +213,9 @@ class Servers(Case):
 
     def test_tilejson(self):
         said = {"tiles": ["tiles/{z}/{x}/{y}.pbf"], "minzoom": 1, "maxzoom": 3, "bounds": [0, 0, 90, 60]}
-        server = self.serving(lambda path: (200, {}, json.dumps(said).encode() if path.endswith("json") else path.encode()))
+        server = self.serving(
+            lambda path: (200, {}, json.dumps(said).encode() if path.endswith("json") else path.encode())
+        )
         store, state = self.store(server.address + "/world/tiles.json")
         found = {str(address): content for part in store.ranges(100) for address, content in store.tiles(part)}
         self.assertEqual(set(found), {"1/1/0", "2/2/1", "3/4/2", "3/4/3", "3/5/2", "3/5/3"})
@@ -210,7 +226,11 @@ class Servers(Case):
         self.assertEqual(found["1/1/0"], b"/1/1/1")
 
     def test_plain_errors(self):
-        server = self.serving(lambda path: {"/a": (200, {}, b"[]"), "/b": (200, {}, b"{}"), "/c": (500, {}, b"")}.get(path, (200, {}, b"<html>")))
+        server = self.serving(
+            lambda path: {"/a": (200, {}, b"[]"), "/b": (200, {}, b"{}"), "/c": (500, {}, b"")}.get(
+                path, (200, {}, b"<html>")
+            )
+        )
         for path, words, pattern in [
             ("/{z}/{x}/{y}", [], "which zooms. say --zooms 0-14"),
             ("/{z}/{x}", ["--zooms", "0"], "an address of tiles has {z}, {x} and {y} or {-y} in it"),
@@ -236,8 +256,10 @@ class Servers(Case):
 
     def test_words_that_name_it_again(self):
         options = Options((0, 14), (-10.25, 40, 5.123456789, 50), 4, 5)
-        self.assertEqual(stores.opened("http://a/{z}/{x}/{y}", options).options(),
-                         ["--zooms", "0-14", "--bounds", "-10.25,40,5.123456789,50", "--requests", "4", "--timeout", "5"])
+        self.assertEqual(
+            stores.opened("http://a/{z}/{x}/{y}", options).options(),
+            ["--zooms", "0-14", "--bounds", "-10.25,40,5.123456789,50", "--requests", "4", "--timeout", "5"],
+        )
         self.assertEqual(stores.opened("http://a/tiles.json").options(), [])
 
 

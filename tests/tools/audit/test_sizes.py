@@ -93,7 +93,9 @@ class Into:
     """Has a block be written into the database that is attached."""
 
     def __init__(self, database):
-        self.executemany = lambda query, rows: database.executemany(query.replace("insert into ", "insert into block."), rows)
+        self.executemany = lambda query, rows: database.executemany(
+            query.replace("insert into ", "insert into block."), rows
+        )
 
 
 def test_the_largest_are_the_same_whichever_part_comes_first():
@@ -141,7 +143,9 @@ def test_each_store_and_its_page(made, tmp_path):
         assert told["largest"][0]["bytes"] == len(made[4, 0, 0])
         if name != "a.pmtiles":
             assert told["zooms"][0]["bytes"] == 5 * len(made[3, 0, 0])
-            assert rows(tmp_path / f"of {name}", "select sum(features) from layer_sizes where layer = 'roads'") == [(10,)]
+            assert rows(tmp_path / f"of {name}", "select sum(features) from layer_sizes where layer = 'roads'") == [
+                (10,)
+            ]
         report = (tmp_path / f"of {name}" / "report.html").read_text()
         assert "What makes tiles large" in report and "1 tile of more than 500,000 bytes" in report
     status, out, _ = audit(tmp_path / "tree", "--into", tmp_path / "of tree")

@@ -132,10 +132,18 @@ class Stores(Case):
         with sqlite3.connect(self.room / "other.mbtiles") as database:
             database.execute("create table t (a)")
         database.close()
-        for name, why in [("a.mbtiles", "no SQLite file"), ("cut.mbtiles", "cut off: 9,000 of"), ("none.mbtiles", "no tiles"),
-                          ("png.mbtiles", "format 'png'"), ("folder", "no tiles"), ("empty.txt", "no names"),
-                          ("other.mbtiles", "no MBTiles"), ("absent.mbtiles", "No such file"), ("absent.txt", "No such file"),
-                          ("absent", "no store of tiles")]:
+        for name, why in [
+            ("a.mbtiles", "no SQLite file"),
+            ("cut.mbtiles", "cut off: 9,000 of"),
+            ("none.mbtiles", "no tiles"),
+            ("png.mbtiles", "format 'png'"),
+            ("folder", "no tiles"),
+            ("empty.txt", "no names"),
+            ("other.mbtiles", "no MBTiles"),
+            ("absent.mbtiles", "No such file"),
+            ("absent.txt", "No such file"),
+            ("absent", "no store of tiles"),
+        ]:
             with self.assertRaisesRegex(StoreError, why):
                 stores.opened(str(self.room / name)).state()
 
@@ -166,7 +174,9 @@ class Blocks(Case):
         store = stores.opened(str(make_mbtiles(self.room / "it's.mbtiles", tiles)))
         with closing(Results(self.into)) as results:
             results.begin([store], [store.state()], 250)
-            blocks = [Block(store.path, part, judged_part(store, tiles)) for part, tiles in enumerate(store.ranges(250))]
+            blocks = [
+                Block(store.path, part, judged_part(store, tiles)) for part, tiles in enumerate(store.ranges(250))
+            ]
             self.assertGreater(len(blocks), 10)
             added = results.add(blocks)
             columns = "verdict, cause, cause_name, layer_name, min(findings, 1), notes"
@@ -191,7 +201,13 @@ class Blocks(Case):
     def test_reading_ahead_reads_what_stands_there(self):
         content = random.Random(7).randbytes(3_000_000)
         (self.room / "file").write_bytes(content)
-        pieces = [(at, 1000) for at in range(0, 2_999_000, 1000)] + [(5, 7), (0, 3_000_000), (2_999_990, 20), (4_000_000, 5), (12, 0)]
+        pieces = [(at, 1000) for at in range(0, 2_999_000, 1000)] + [
+            (5, 7),
+            (0, 3_000_000),
+            (2_999_990, 20),
+            (4_000_000, 5),
+            (12, 0),
+        ]
         with open(self.room / "file", "rb") as file:
             read = ReadAhead(file.fileno())
             for at, length in [*pieces, *pieces[::-1], *pieces[::7]]:
@@ -218,7 +234,10 @@ class Unpacking(unittest.TestCase):
         self.assertEqual(len(unpacked(large * 2 + one)), LIMIT + 1)
 
     def test_members_cost_no_square_of_their_number(self):
-        for stored in (gzip.compress(b"", mtime=0) * 100_000, gzip.compress(random.Random(1).randbytes(16_000), mtime=0) * 4096):
+        for stored in (
+            gzip.compress(b"", mtime=0) * 100_000,
+            gzip.compress(random.Random(1).randbytes(16_000), mtime=0) * 4096,
+        ):
             begun = time.process_time()
             with contextlib.suppress(NotUnpacked):
                 unpacked(stored)
@@ -229,9 +248,16 @@ class Unpacking(unittest.TestCase):
         whole = gzip.compress(tile)
         wrong = bytearray(whole)
         wrong[-6] ^= 1
-        for stored, why in [(whole[:100], "cut off"), (whole[:-1], "cut off"), (wrong, "incorrect data check"), (b"\x1f\x8b", "cut off"),
-                            (whole + b"more", "4 more bytes"), (b"\x1f\x8b\x07" + bytes(20), "unknown compression method"),
-                            (zlib.compress(tile)[:-1], "cut off"), (zlib.compress(tile) + b"x", "1 more bytes")]:
+        for stored, why in [
+            (whole[:100], "cut off"),
+            (whole[:-1], "cut off"),
+            (wrong, "incorrect data check"),
+            (b"\x1f\x8b", "cut off"),
+            (whole + b"more", "4 more bytes"),
+            (b"\x1f\x8b\x07" + bytes(20), "unknown compression method"),
+            (zlib.compress(tile)[:-1], "cut off"),
+            (zlib.compress(tile) + b"x", "1 more bytes"),
+        ]:
             with self.assertRaisesRegex(NotUnpacked, why):
                 unpacked(bytes(stored))
             row = judged(Address(0, 0, 0), bytes(stored))

@@ -1,10 +1,10 @@
 // The page's calls through the server answer what the program says of each case, in node and in Chromium.
-import { Codec } from '../../../tools/mvt_tools/page/src/codec.js';
-import { answersOf, wrongOf } from './answers.mjs';
-import { casesByFile } from './cases.mjs';
-import { check, chromium } from './checks.mjs';
-import { OnPage } from './onpage.mjs';
-import { Serving } from './serving.mjs';
+import {Codec} from '../../../tools/mvt_tools/page/src/codec.js';
+import {answersOf, wrongOf} from './answers.mjs';
+import {casesByFile} from './cases.mjs';
+import {check, chromium} from './checks.mjs';
+import {OnPage} from './onpage.mjs';
+import {Serving} from './serving.mjs';
 
 const AT_ONCE = 100;
 const serving = await Serving.start();

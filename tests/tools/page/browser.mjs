@@ -1,8 +1,8 @@
 // A headless Chromium, driven through a pipe by its DevTools protocol.
-import { spawn } from 'node:child_process';
-import { mkdtempSync, rmSync } from 'node:fs';
-import { tmpdir } from 'node:os';
-import { join } from 'node:path';
+import {spawn} from 'node:child_process';
+import {mkdtempSync, rmSync} from 'node:fs';
+import {tmpdir} from 'node:os';
+import {join} from 'node:path';
 
 const DEADLINE = 120_000;
 
@@ -16,8 +16,10 @@ export class Browser {
 
   constructor(program, words = []) {
     this.#folder = mkdtempSync(join(tmpdir(), 'page-'));
-    const all = ['--headless', '--no-sandbox', '--disable-gpu', '--disable-dev-shm-usage', '--no-first-run', '--hide-scrollbars',
-      '--remote-debugging-pipe', `--user-data-dir=${this.#folder}`, ...words];
+    const all = [
+      '--headless', '--no-sandbox', '--disable-gpu', '--disable-dev-shm-usage', '--no-first-run', '--hide-scrollbars',
+      '--remote-debugging-pipe', `--user-data-dir=${this.#folder}`, ...words
+    ];
     this.#process = spawn(program, all, { stdio: ['ignore', 'ignore', 'ignore', 'pipe', 'pipe'] });
     this.#process.stdio[4].setEncoding('utf8').on('data', (text) => this.#read(text));
   }
@@ -58,7 +60,10 @@ export class Browser {
     await page.send('Page.enable');
     await page.send('Runtime.enable');
     await page.send('Emulation.setDeviceMetricsOverride', { width, height, deviceScaleFactor: 1, mobile: width < 600 });
-    const features = [{ name: 'prefers-color-scheme', value: dark ? 'dark' : 'light' }, { name: 'forced-colors', value: forced ? 'active' : 'none' }];
+    const features = [
+      { name: 'prefers-color-scheme', value: dark ? 'dark' : 'light' },
+      { name: 'forced-colors', value: forced ? 'active' : 'none' }
+    ];
     await page.send('Emulation.setEmulatedMedia', { features });
     if (before) await page.send('Page.addScriptToEvaluateOnNewDocument', { source: before });
     await page.send('Page.navigate', { url });
@@ -75,9 +80,13 @@ export class Browser {
   async record() {
     const events = [];
     this.listen(({ method, params }) => method === 'Tracing.dataCollected' && events.push(...params.value));
-    const ended = new Promise((resolve) => this.listen(({ method }) => method === 'Tracing.tracingComplete' && resolve()));
-    const includedCategories = ['disabled-by-default-devtools.timeline', 'devtools.timeline', 'blink.user_timing', '__metadata'];
-    await this.send('Tracing.start', { transferMode: 'ReportEvents', traceConfig: { includedCategories, excludedCategories: ['*'] } });
+    const ended =
+      new Promise((resolve) => this.listen(({ method }) => method === 'Tracing.tracingComplete' && resolve()));
+    const includedCategories =
+      ['disabled-by-default-devtools.timeline', 'devtools.timeline', 'blink.user_timing', '__metadata'];
+    await this.send(
+      'Tracing.start',
+      { transferMode: 'ReportEvents', traceConfig: { includedCategories, excludedCategories: ['*'] } });
     return async (page) => {
       await page.value("performance.mark('the page')");
       await this.send('Tracing.end');
@@ -86,7 +95,8 @@ export class Browser {
       const here = events.filter(({ ph, pid, tid }) => ph === 'X' && pid === main.pid && tid === main.tid);
       const changes = here.filter(({ name, args }) => name === 'EventDispatch' && args.data.type === 'change');
       const counted = (task) => changes.find(({ ts }) => ts >= task.ts && ts <= task.ts + task.dur) ?? task;
-      return here.filter(({ name }) => name === 'RunTask').map(counted).map(({ tdur, dur }) => Math.min(tdur, dur) / 1000);
+      return here.filter(({ name }) => name === 'RunTask').map(counted).map(({ tdur,
+                                                                               dur }) => Math.min(tdur, dur) / 1000);
     };
   }
 
@@ -108,8 +118,10 @@ class Tab {
     this.sessionId = sessionId;
     browser.listen(({ method, params, sessionId: from }) => {
       if (from !== sessionId) return;
-      if (method === 'Runtime.exceptionThrown') this.errors.push(params.exceptionDetails.exception?.description ?? params.exceptionDetails.text);
-      if (method === 'Runtime.consoleAPICalled' && params.type === 'error') this.errors.push(JSON.stringify(params.args));
+      if (method === 'Runtime.exceptionThrown')
+        this.errors.push(params.exceptionDetails.exception?.description ?? params.exceptionDetails.text);
+      if (method === 'Runtime.consoleAPICalled' && params.type === 'error')
+        this.errors.push(JSON.stringify(params.args));
     });
   }
 
@@ -119,7 +131,8 @@ class Tab {
 
   /** The value of an expression in the page; a promise is waited for. */
   async value(expression) {
-    const { result, exceptionDetails } = await this.send('Runtime.evaluate', { expression, awaitPromise: true, returnByValue: true });
+    const { result, exceptionDetails } =
+      await this.send('Runtime.evaluate', { expression, awaitPromise: true, returnByValue: true });
     if (exceptionDetails) throw new Error(exceptionDetails.exception?.description ?? exceptionDetails.text);
     return result.value;
   }
@@ -143,12 +156,30 @@ class Tab {
   /** Drops files on the page. */
   async drop(paths) {
     const data = { items: [], files: paths, dragOperationsMask: 1 };
-    for (const type of ['dragEnter', 'dragOver', 'drop']) await this.send('Input.dispatchDragEvent', { type, x: 200, y: 200, data });
+    for (const type of ['dragEnter', 'dragOver', 'drop'])
+      await this.send('Input.dispatchDragEvent', { type, x: 200, y: 200, data });
   }
 
   async press(key) {
-    const codes = { Tab: 9, Enter: 13, ' ': 32, End: 35, Home: 36, ArrowLeft: 37, ArrowUp: 38, ArrowRight: 39, ArrowDown: 40 };
-    const event = { key, code: key === ' ' ? 'Space' : key, windowsVirtualKeyCode: codes[key], text: key === 'Enter' ? '\r' : key.length === 1 ? key : undefined };
+    const codes = {
+      Tab: 9,
+      Enter: 13,
+      ' ': 32,
+      End: 35,
+      Home: 36,
+      ArrowLeft: 37,
+      ArrowUp: 38,
+      ArrowRight: 39,
+      ArrowDown: 40
+    };
+    const event = {
+      key,
+      code: key === ' ' ? 'Space' : key,
+      windowsVirtualKeyCode: codes[key],
+      text: key === 'Enter' ? '\r' :
+        key.length === 1    ? key :
+                              undefined
+    };
     await this.send('Input.dispatchKeyEvent', { type: 'keyDown', ...event });
     await this.send('Input.dispatchKeyEvent', { type: 'keyUp', ...event, text: undefined });
   }

@@ -1,5 +1,5 @@
 // What the program `mvt` says of tiles, from the files of cases that fixtures/tiles/cases.py makes and explains.
-import { readFileSync } from 'node:fs';
+import {readFileSync} from 'node:fs';
 
 const EXAMPLES = new URL('../../../fixtures/tiles/cases.txt', import.meta.url).pathname;
 

@@ -1,12 +1,12 @@
 // The page in headless Firefox. What it shows of tiles is compared in Chromium; here it is seen to work in a second browser.
-import { spawn } from 'node:child_process';
-import { existsSync, mkdtempSync, readFileSync, rmSync, writeFileSync } from 'node:fs';
-import { connect } from 'node:net';
-import { tmpdir } from 'node:os';
-import { join } from 'node:path';
-import { check, firefox as program, stores } from './checks.mjs';
-import { colourAt, same, textOf, texts, tiles } from './onpage.mjs';
-import { Serving } from './serving.mjs';
+import {spawn} from 'node:child_process';
+import {existsSync, mkdtempSync, readFileSync, rmSync, writeFileSync} from 'node:fs';
+import {connect} from 'node:net';
+import {tmpdir} from 'node:os';
+import {join} from 'node:path';
+import {check, firefox as program, stores} from './checks.mjs';
+import {colourAt, same, textOf, texts, tiles} from './onpage.mjs';
+import {Serving} from './serving.mjs';
 
 const DEADLINE = 120_000;
 const pause = (milliseconds) => new Promise((resolve) => setTimeout(resolve, milliseconds));
@@ -22,7 +22,9 @@ class Firefox {
 
   async start(program, { width, height }) {
     writeFileSync(join(this.#folder, 'user.js'), 'user_pref("marionette.port", 0);\n');
-    const words = ['--headless', '--marionette', '--no-remote', '--profile', this.#folder, `--width=${width}`, `--height=${height}`];
+    const words = [
+      '--headless', '--marionette', '--no-remote', '--profile', this.#folder, `--width=${width}`, `--height=${height}`
+    ];
     this.#process = spawn(program, words, { stdio: 'ignore' });
     const port = join(this.#folder, 'MarionetteActivePort');
     for (const end = Date.now() + DEADLINE; !existsSync(port) || readFileSync(port, 'utf8') === '';) {
@@ -43,7 +45,7 @@ class Firefox {
       if (colon === -1 || this.#held.length < end) return;
       const message = JSON.parse(this.#held.subarray(colon + 1, end));
       this.#held = this.#held.subarray(end);
-      if (!Array.isArray(message)) continue;    // it says first who it is
+      if (!Array.isArray(message)) continue;  // it says first who it is
       const [, id, error, result] = message;
       const { resolve, reject } = this.#waiting.get(id);
       if (error) reject(new Error(`${error.error}: ${error.message}`));
@@ -84,7 +86,10 @@ class Firefox {
   /** Presses a key, perhaps with Shift. */
   async press(key, isShifted = false) {
     const keys = isShifted ? ['\uE008', key] : [key];
-    const actions = [...keys.map((value) => ({ type: 'keyDown', value })), ...[...keys].reverse().map((value) => ({ type: 'keyUp', value }))];
+    const actions = [
+      ...keys.map((value) => ({ type: 'keyDown', value })),
+      ...[...keys].reverse().map((value) => ({ type: 'keyUp', value }))
+    ];
     await this.send('WebDriver:PerformActions', { actions: [{ type: 'key', id: 'keys', actions }] });
   }
 
@@ -97,7 +102,10 @@ class Firefox {
   }
 }
 
-const wants = { firefox: program, MVT_STORES: stores };
+const wants = {
+  firefox: program,
+  MVT_STORES: stores
+};
 const firefox = new Firefox();
 const serving = await Serving.start();
 const { address } = serving;
@@ -108,7 +116,8 @@ async function opened(name, files, holds) {
   await check(name, async () => {
     await firefox.open(address);
     await firefox.choose(files);
-    await firefox.until("document.querySelector('#tile article, #list tbody tr') && !document.body.classList.contains('busy')");
+    await firefox.until(
+      "document.querySelector('#tile article, #list tbody tr') && !document.body.classList.contains('busy')");
     return holds();
   }, wants);
 }
@@ -116,7 +125,8 @@ async function opened(name, files, holds) {
 await opened('a good tile', [`${tiles}/gdal.mvt`], async () => {
   await firefox.until("document.querySelector('.paper')?.dataset.state === 'drawn'");
   const facts = await firefox.value(textOf('.facts'));
-  const [[r, g, b], hole] = await Promise.all([[2400, 1000], [2700, 1300]].map(([x, y]) => firefox.value(colourAt(x / 4096, y / 4096))));
+  const [[r, g, b], hole] =
+    await Promise.all([[2400, 1000], [2700, 1300]].map(([x, y]) => firefox.value(colourAt(x / 4096, y / 4096))));
   return same([facts, g > r && g > b, hole[3]], ['499 bytes, 3 layers, 7 features, 30 positions.', true, 0]);
 });
 
@@ -130,12 +140,14 @@ await opened('a compressed tile', [`${tiles}/broken/25-TooLarge.mvt.gz`], async 
   return (await firefox.value(textOf('.fault code'))).endsWith('25 TooLarge');
 });
 
-await opened('several tiles', [`${tiles}/gdal.mvt`, `${tiles}/broken/22-FirstRing.mvt`, `${tiles}/postgis.mvt`], async () => {
-  const title = await firefox.value(textOf('#list h2'));
-  await firefox.value("document.querySelectorAll('#list tbody button')[2].click()");
-  await firefox.until("document.querySelector('.paper')?.dataset.state === 'drawn' && !document.body.classList.contains('busy')");
-  return same([title, await firefox.value(textOf('#tile h2'))], ['3 files: 2 accepted, 1 refused', 'postgis.mvt']);
-});
+await opened(
+  'several tiles', [`${tiles}/gdal.mvt`, `${tiles}/broken/22-FirstRing.mvt`, `${tiles}/postgis.mvt`], async () => {
+    const title = await firefox.value(textOf('#list h2'));
+    await firefox.value("document.querySelectorAll('#list tbody button')[2].click()");
+    await firefox.until(
+      "document.querySelector('.paper')?.dataset.state === 'drawn' && !document.body.classList.contains('busy')");
+    return same([title, await firefox.value(textOf('#tile h2'))], ['3 files: 2 accepted, 1 refused', 'postgis.mvt']);
+  });
 
 /** A test with a server of its own, which is ended afterwards. */
 async function served(name, words, holds) {
@@ -151,10 +163,13 @@ async function served(name, words, holds) {
 
 await served('a store', [`${stores}/town.mbtiles`, '5/17/11'], async (given) => {
   await firefox.open(given.address);
-  const shown = (name) => firefox.until(`${textOf('#tile h2')} === '${name}' && document.querySelector('#tile .paper, #tile .hex') && !document.body.classList.contains('busy')`);
+  const shown = (name) => firefox.until(`${textOf('#tile h2')} === '${
+    name}' && document.querySelector('#tile .paper, #tile .hex') && !document.body.classList.contains('busy')`);
   await shown('5/17/11');
   const seen = [await firefox.value(textOf('.fault code'))];
-  for (const [key, isShifted, name] of [['\uE014', true, '5/18/11'], ['0', false, '4/9/5'], ['n', false, '5/17/11']]) {    // columns of MBTiles go from south to north
+  for (const [key, isShifted, name] of [
+         ['\uE014', true, '5/18/11'], ['0', false, '4/9/5'],
+         ['n', false, '5/17/11']]) {  // columns of MBTiles go from south to north
     await firefox.press(key, isShifted);
     await shown(name);
     seen.push(name);
@@ -165,9 +180,12 @@ await served('a store', [`${stores}/town.mbtiles`, '5/17/11'], async (given) => 
 await served('the page and its workers reach its own server alone', [], async (other) => {
   await firefox.open(address);
   const reaches = (url) => `fetch('${url}given', { mode: 'no-cors' }).then(() => 'reached', () => 'nothing')`;
-  const told = async (expression) => (await firefox.send('WebDriver:ExecuteAsyncScript', { script: `(${expression}).then(arguments[0])`, args: [] })).value;
+  const told = async (expression) =>
+    (await firefox.send('WebDriver:ExecuteAsyncScript', { script: `(${expression}).then(arguments[0])`, args: [] }))
+      .value;
   const inWorker = (script) => `new Promise((resolve) => {
-    const worker = new Worker(URL.createObjectURL(new Blob([\`\${${JSON.stringify(script)}}.then((told) => postMessage(told))\`])));
+    const worker = new Worker(URL.createObjectURL(new Blob([\`\${${
+    JSON.stringify(script)}}.then((told) => postMessage(told))\`])));
     worker.onmessage = ({ data }) => resolve(data);
     worker.onerror = () => resolve('failed');
   })`;

@@ -1,7 +1,20 @@
 // Rows made by hand, laid out as library/c/mvt.h says, for tests of what reads them.
 
-const KINDS = { unknown: 0, points: 1, lines: 2, polygons: 3 };
-const VALUES = { string: 1, float: 2, double: 3, int: 4, uint: 5, sint: 6, bool: 7 };
+const KINDS = {
+  unknown: 0,
+  points: 1,
+  lines: 2,
+  polygons: 3
+};
+const VALUES = {
+  string: 1,
+  float: 2,
+  double: 3,
+  int: 4,
+  uint: 5,
+  sint: 6,
+  bool: 7
+};
 
 /**
  * The rows of layers, `{name, extent, version, features, spare, bytes}`; a feature is `{id, shape, parts, attributes}`, a part a
@@ -9,7 +22,17 @@ const VALUES = { string: 1, float: 2, double: 3, int: 4, uint: 5, sint: 6, bool:
  * the keys to spare.
  */
 export function handMade(layers) {
-  const lists = { layers: [], features: [], keys: [], values: [], tags: [], parts: [], points: [], integers: [], texts: [] };
+  const lists = {
+    layers: [],
+    features: [],
+    keys: [],
+    values: [],
+    tags: [],
+    parts: [],
+    points: [],
+    integers: [],
+    texts: []
+  };
   const texts = [];
   const spelled = (text) => {
     const bytes = new TextEncoder().encode(text);
@@ -42,7 +65,17 @@ function featureRow({ id = null, shape, parts = [], attributes = [] }, lists, st
   return [id ?? 0n, id === null ? 0 : 1, KINDS[shape], [tags, lists.tags.length - tags], [first, parts.length], [0, 0]];
 }
 
-const SIZES = { layers: 88, features: 64, keys: 16, values: 32, tags: 4, parts: 24, points: 8, integers: 4, texts: 1 };
+const SIZES = {
+  layers: 88,
+  features: 64,
+  keys: 16,
+  values: 32,
+  tags: 4,
+  parts: 24,
+  points: 8,
+  integers: 4,
+  texts: 1
+};
 
 function laid(lists) {
   let end = 16;
@@ -86,6 +119,7 @@ function laid(lists) {
     integers: (at, integer) => view.setUint32(at, integer, true),
     texts: (at, byte) => view.setUint8(at, byte),
   };
-  for (const [name, { at }] of Object.entries(places)) lists[name].forEach((row, index) => put[name](at + SIZES[name] * index, row));
-  return { ...places, memory: () => view };
+  for (const [name, { at }] of Object.entries(places))
+    lists[name].forEach((row, index) => put[name](at + SIZES[name] * index, row));
+  return {...places, memory: () => view };
 }

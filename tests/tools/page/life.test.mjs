@@ -1,7 +1,7 @@
 // A server that ends while the page is open, calls that are given up, many tabs, and tiles that are too dear, with a server for
 // each test.
-import { pointTile, varint } from './large.mjs';
-import { clickNamed, drawn, look, painted, same, textOf, tiles, withServer } from './onpage.mjs';
+import {pointTile, varint} from './large.mjs';
+import {clickNamed, drawn, look, painted, same, textOf, tiles, withServer} from './onpage.mjs';
 
 const gdal = `${tiles}/gdal.mvt`;
 const busy = "document.body.classList.contains('busy')";
@@ -19,10 +19,13 @@ await served('the server ends: it is told, and what is drawn stays', async (page
   const stays = [await page.value(textOf('#tile h2')), await page.value(painted()) === before[1]];
   await page.value("document.querySelector('.paper').focus()");
   await page.press('+');
-  await page.until(`document.querySelector('.paper.moved')?.dataset.state === 'drawn' && ${painted()} !== ${before[1]}`);
+  await page.until(
+    `document.querySelector('.paper.moved')?.dataset.state === 'drawn' && ${painted()} !== ${before[1]}`);
   await page.value(clickNamed('Save JSON'));
   await page.until("document.body.innerText.includes('It can’t be made')");
-  return same([before[0], status, /mvt-page has ended.*What is shown stays/.test(await page.value(gone)), stays], ['', 0, true, ['gdal.mvt', true]]);
+  return same(
+    [before[0], status, /mvt-page has ended.*What is shown stays/.test(await page.value(gone)), stays],
+    ['', 0, true, ['gdal.mvt', true]]);
 });
 
 await served('the server ends while a list is judged: what is told stays', async (page, serving, on) => {
@@ -81,23 +84,33 @@ function fullTile(featureOf) {
 
 // Half of 4 GiB, as on a machine that has so much.
 const small = ['bash', '-c', 'ulimit -d 2097152 && exec "$@"', '-'];
-await served('64 MiB of the dearest kind under 4 GiB: that there is no memory is told, beside the counts', async (page, serving, on) => {
-  await page.choose([on.made('empty.mvt', fullTile(() => [0x12, 0]))]);    // of which the rows have 2 GB
-  await page.until(`document.querySelector('.facts') && !${busy}`, 300);
-  const shown = await page.value("document.querySelector('#tile').innerText");
-  await page.value(clickNamed('Save JSON'));
-  await page.until("document.body.innerText.includes('There is no memory for it')", 120);
-  await look(page, [gdal]);
-  return same([shown.includes('67 MB, 1 layer, 33,554,427 features.') || shown.slice(0, 400), shown.includes('There is no picture: there is no memory for it.'),
-    await page.value(textOf('.facts'))], [true, true, '499 bytes, 3 layers, 7 features, 30 positions.']);
-}, small);
+await served(
+  '64 MiB of the dearest kind under 4 GiB: that there is no memory is told, beside the counts',
+  async (page, serving, on) => {
+    await page.choose([on.made('empty.mvt', fullTile(() => [0x12, 0]))]);  // of which the rows have 2 GB
+    await page.until(`document.querySelector('.facts') && !${busy}`, 300);
+    const shown = await page.value("document.querySelector('#tile').innerText");
+    await page.value(clickNamed('Save JSON'));
+    await page.until("document.body.innerText.includes('There is no memory for it')", 120);
+    await look(page, [gdal]);
+    return same(
+      [
+        shown.includes('67 MB, 1 layer, 33,554,427 features.') || shown.slice(0, 400),
+        shown.includes('There is no picture: there is no memory for it.'), await page.value(textOf('.facts'))
+      ],
+      [true, true, '499 bytes, 3 layers, 7 features, 30 positions.']);
+  },
+  small);
 
 await served('64 MiB of points under 4 GiB: all is told', async (page, serving, on) => {
-  const path = on.made('most.mvt', fullTile((index) => [0x12, 7, 0x18, 1, 0x22, 3, 9, index % 128, (index >> 7) % 128]));
+  const path =
+    on.made('most.mvt', fullTile((index) => [0x12, 7, 0x18, 1, 0x22, 3, 9, index % 128, (index >> 7) % 128]));
   const began = Date.now();
   await page.choose([path]);
   await page.until(`document.querySelector('.facts') && !${busy}`, 300);
-  if (process.env.TELL) console.log(`64 MiB of points: all told after ${(Date.now() - began) / 1000} s, the server ${serving.memory} MB`);
-  return same([await page.value(textOf('.facts')), (await page.value(textOf('.canonical'))).slice(0, 2)], ['67 MB, 1 layer, 7,456,539 features, 7,456,539 positions.', 'No']);
+  if (process.env.TELL)
+    console.log(`64 MiB of points: all told after ${(Date.now() - began) / 1000} s, the server ${serving.memory} MB`);
+  return same(
+    [await page.value(textOf('.facts')), (await page.value(textOf('.canonical'))).slice(0, 2)],
+    ['67 MB, 1 layer, 7,456,539 features, 7,456,539 positions.', 'No']);
 }, small);
-

@@ -35,7 +35,10 @@ def small(number):
 
 def many():
     """150,000 small tiles, and behind them a broken one."""
-    return {**{(9, number % 512, number // 512): small(number) for number in range(150_000)}, (12, 0, 0): broken("22-FirstRing")}
+    return {
+        **{(9, number % 512, number // 512): small(number) for number in range(150_000)},
+        (12, 0, 0): broken("22-FirstRing"),
+    }
 
 
 def archive_of(entries, leaves=b"", data=b"x" * 100):

@@ -1,9 +1,9 @@
 // What the tests of the page in headless Chromium have in common.
-import { existsSync, readFileSync, writeFileSync } from 'node:fs';
-import { join } from 'node:path';
-import { Browser } from './browser.mjs';
-import { check, chromium, folder } from './checks.mjs';
-import { Serving } from './serving.mjs';
+import {existsSync, readFileSync, writeFileSync} from 'node:fs';
+import {join} from 'node:path';
+import {Browser} from './browser.mjs';
+import {check, chromium, folder} from './checks.mjs';
+import {Serving} from './serving.mjs';
 
 export const tiles = new URL('../../../fixtures/tiles', import.meta.url).pathname;
 
@@ -80,16 +80,21 @@ export async function withServer(name, words, how, holds, before = [], wants = {
   }, { chromium, ...wants });
 }
 
-export const texts = (selector) => `[...document.querySelectorAll(${JSON.stringify(selector)})].map((each) => each.textContent)`;
+export const texts = (selector) =>
+  `[...document.querySelectorAll(${JSON.stringify(selector)})].map((each) => each.textContent)`;
 export const textOf = (selector) => `(document.querySelector(${JSON.stringify(selector)})?.textContent ?? '')`;
 export const click = (selector) => `document.querySelector(${JSON.stringify(selector)}).click()`;
-export const clickNamed = (name) => `[...document.querySelectorAll('button, summary')].find((each) => each.textContent === ${JSON.stringify(name)}).click()`;
-export const clickLabelled = (name) => `document.querySelector(${JSON.stringify(`[aria-label=${JSON.stringify(name)}]`)}).click()`;
+export const clickNamed = (name) =>
+  `[...document.querySelectorAll('button, summary')].find((each) => each.textContent === ${
+    JSON.stringify(name)}).click()`;
+export const clickLabelled = (name) =>
+  `document.querySelector(${JSON.stringify(`[aria-label=${JSON.stringify(name)}]`)}).click()`;
 
 /** Chooses files and waits until the page has said of them what it says. */
 export async function look(page, files, seconds = 120) {
   await page.choose(files);
-  await page.until("document.querySelector('#tile article, #list tbody tr') && !document.body.classList.contains('busy')", seconds);
+  await page.until(
+    "document.querySelector('#tile article, #list tbody tr') && !document.body.classList.contains('busy')", seconds);
 }
 
 /** Waits until the picture is drawn. */
@@ -122,4 +127,4 @@ export async function spotOf(page, x, y) {
   })()`);
 }
 
-export { same } from './checks.mjs';
+export {same} from './checks.mjs';

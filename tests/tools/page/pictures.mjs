@@ -1,14 +1,21 @@
 // The pictures of the page for the documents: pictures.mjs FOLDER STORES. The last has what make_stores.py made.
-import { writeFileSync } from 'node:fs';
-import { join } from 'node:path';
-import { OnPage, click, clickLabelled, drawn, look, tiles } from './onpage.mjs';
-import { Serving } from './serving.mjs';
+import {writeFileSync} from 'node:fs';
+import {join} from 'node:path';
+import {OnPage, click, clickLabelled, drawn, look, tiles} from './onpage.mjs';
+import {Serving} from './serving.mjs';
 
 const [folder, stores] = process.argv.slice(2);
 const serving = await Serving.start();
 const on = new OnPage(serving.address);
-const WIDE = { width: 1400, height: 900 };
-const PHONE = { width: 390, height: 844, dark: true };
+const WIDE = {
+  width: 1400,
+  height: 900
+};
+const PHONE = {
+  width: 390,
+  height: 844,
+  dark: true
+};
 
 /** The picture of a page in which a person has done something. */
 async function picture(name, how, does, url = on.url) {
@@ -36,7 +43,10 @@ await picture('page-refused', WIDE, async (page) => {
 });
 
 await picture('page-several', PHONE, async (page) => {
-  const some = ['gdal.mvt', 'postgis.mvt', 'point.mvt', 'broken/07-NotUtf8.mvt', 'broken/22-FirstRing.mvt', 'broken/25-TooLarge.mvt.gz'];
+  const some = [
+    'gdal.mvt', 'postgis.mvt', 'point.mvt', 'broken/07-NotUtf8.mvt', 'broken/22-FirstRing.mvt',
+    'broken/25-TooLarge.mvt.gz'
+  ];
   await look(page, some.map((each) => `${tiles}/${each}`));
   await page.value("document.querySelectorAll('#list tbody .link')[4].click()");
   await page.until("document.querySelector('.shape')");

@@ -1,8 +1,9 @@
 // The command as the tests start it: $MVT_PAGE where that names an installed one.
-import { spawn } from 'node:child_process';
-import { readFileSync } from 'node:fs';
+import {spawn} from 'node:child_process';
+import {readFileSync} from 'node:fs';
 
-const COMMAND = process.env.MVT_PAGE ? [process.env.MVT_PAGE] : [process.env.PYTHON ?? 'python3', '-m', 'mvt_tools.page'];
+const COMMAND =
+  process.env.MVT_PAGE ? [process.env.MVT_PAGE] : [process.env.PYTHON ?? 'python3', '-m', 'mvt_tools.page'];
 const DEADLINE = 60_000;
 
 export class Serving {
@@ -32,7 +33,8 @@ export class Serving {
 
   /** The most memory that it had, in MB. */
   get memory() {
-    return Math.round(Number(/VmHWM:\s+(\d+)/.exec(readFileSync(`/proc/${this.#process.pid}/status`, 'utf8'))[1]) / 1000);
+    return Math.round(
+      Number(/VmHWM:\s+(\d+)/.exec(readFileSync(`/proc/${this.#process.pid}/status`, 'utf8'))[1]) / 1000);
   }
 
   /** Ends it, and answers its status. */

@@ -47,7 +47,11 @@ def test_as_many_tiles_as_there_is_room_for(serving):
 
 def test_a_tile_beyond_the_limit_is_too_large(serving):
     tile = tile_of(libmvt.LIMIT) + b"\0"
-    answers = [serving.call("extract", frames(b"a", tile)), serving.call("geojson", frames(b"", tile)), *parts_of(serving.call("surveys", frames(tile)))]
+    answers = [
+        serving.call("extract", frames(b"a", tile)),
+        serving.call("geojson", frames(b"", tile)),
+        *parts_of(serving.call("surveys", frames(tile))),
+    ]
     for answer in answers:
         found, told = status(answer)
         assert (found, struct.unpack_from("<qqQI", told)[3]) == (REFUSED, TOO_LARGE)
@@ -62,7 +66,13 @@ def test_a_body_beyond_all_frames_is_refused(serving):
 
 def test_frames_that_say_more_than_there_is(serving):
     tile = tile_of(4 << 20)
-    for body in (frames(b"a", tile)[:-1], frames(b"a", tile) + b"\0", struct.pack("<I", 1 << 31) + tile, struct.pack("<II", 1, 1 << 31) + tile, tile):
+    for body in (
+        frames(b"a", tile)[:-1],
+        frames(b"a", tile) + b"\0",
+        struct.pack("<I", 1 << 31) + tile,
+        struct.pack("<II", 1, 1 << 31) + tile,
+        tile,
+    ):
         for call in ("extract", "surveys", "geojson"):
             assert serving.ask("POST", call, body)[0] == 400
     assert serving.memory("VmHWM") < 2000

@@ -14,7 +14,9 @@ def read(told):
     """An answer: what the bytes look like, the fault, its place, and the sentence."""
     kind, layer, feature, at, cause, length = struct.unpack_from("<IqqQII", told, 4)
     name = told[40 : 40 + length].decode()
-    fault = SimpleNamespace(layer=None if layer < 0 else layer, feature=None if feature < 0 else feature, at=at, cause=cause, name=name)
+    fault = SimpleNamespace(
+        layer=None if layer < 0 else layer, feature=None if feature < 0 else feature, at=at, cause=cause, name=name
+    )
     looks, begin = None, 40 + length
     if kind:
         (size,) = struct.unpack_from("<I", told, begin)
@@ -22,7 +24,9 @@ def read(told):
     has_name, has_id, number, start, end, length, sentence = struct.unpack_from("<IIQQQII", told, begin)
     words = told[begin + 40 :]
     assert len(words) == length + sentence
-    place = SimpleNamespace(name=words[:length] if has_name else None, id=number if has_id else None, start=start, end=end)
+    place = SimpleNamespace(
+        name=words[:length] if has_name else None, id=number if has_id else None, start=start, end=end
+    )
     said = words[length:].decode()
     assert looks in (None, said)
     return LOOKALIKES.get(kind), fault, place, said

@@ -32,7 +32,9 @@ def given(serving):
     """What the command was given; what notes and findings mean is beside it."""
     all_told = told(serving, "given")
     meanings = all_told.pop("meanings")
-    assert meanings["notes"]["NoFeatures"] == "A layer has no feature." and meanings["findings"]["LargeId"].startswith("An id is beyond")
+    assert meanings["notes"]["NoFeatures"] == "A layer has no feature." and meanings["findings"]["LargeId"].startswith(
+        "An id is beyond"
+    )
     return all_told
 
 
@@ -105,7 +107,9 @@ class Stores(Case):
         bare = make_mbtiles(self.room / "bare.mbtiles", {})
         with sqlite3.connect(bare) as database:
             database.execute("drop table tiles")
-            database.execute("create table tiles (zoom_level integer, tile_column integer, tile_row integer, tile_data blob)")
+            database.execute(
+                "create table tiles (zoom_level integer, tile_column integer, tile_row integer, tile_data blob)"
+            )
             rows = [(z, x, (1 << z) - 1 - y, tile) for (z, x, y), tile in tiles.items()]
             database.executemany("insert into tiles values (?, ?, ?, ?)", rows)
         database.close()
@@ -123,7 +127,11 @@ class Stores(Case):
             with Serving(path) as serving:
                 rows = listed(serving, 0)
                 self.assertEqual(len(rows), 101, kind)
-                self.assertEqual({(row["z"], row["x"], row["y"]): row["size"] for row in rows}, {place: len(tile) for place, tile in tiles.items()}, kind)
+                self.assertEqual(
+                    {(row["z"], row["x"], row["y"]): row["size"] for row in rows},
+                    {place: len(tile) for place, tile in tiles.items()},
+                    kind,
+                )
                 if kind in ("table", "keys", "view", "tree"):
                     self.assertEqual([row["z"] for row in rows], sorted(row["z"] for row in rows))
                 for row in rows[::9]:
@@ -134,14 +142,21 @@ class Stores(Case):
 
     def test_rows_are_those_of_an_audit(self):
         """Whatever the packing; and a page of the list says what a search says."""
-        tiles = at_places([stored for tile in example_tiles().values() if len(tile) < 1 << 20 for stored in packings(tile).values()])
+        tiles = at_places(
+            [stored for tile in example_tiles().values() if len(tile) < 1 << 20 for stored in packings(tile).values()]
+        )
         tiles.update({(9, 1, 1): gzip.compress(GDAL)[:-9], (9, 1, 2): bytes([0x78, 0x01]), (9, 1, 3): b"\x1f\x8b"})
         path = make_mbtiles(self.room / "a.mbtiles", tiles)
         store = stores.opened(str(path))
         store.state()
         audited = {}
         for part in store.ranges(1000):
-            audited.update({(row.z, row.x, row.y): row for row in (judged(address, content) for address, content in store.tiles(part))})
+            audited.update(
+                {
+                    (row.z, row.x, row.y): row
+                    for row in (judged(address, content) for address, content in store.tiles(part))
+                }
+            )
         broken = {place for place, row in audited.items() if row.verdict not in ("accepted", "empty")}
         with Serving(path) as serving:
             for row in listed(serving, 0, 50):
@@ -151,23 +166,42 @@ class Stores(Case):
             self.assertEqual({(row["z"], row["x"], row["y"]) for row in found}, broken)
             for cause in {row.cause for row in audited.values()} - {None}:
                 wanted = {place for place, row in audited.items() if row.cause == cause}
-                self.assertEqual({(row["z"], row["x"], row["y"]) for row in listed(serving, 0, 50, cause)}, wanted, cause)
+                self.assertEqual(
+                    {(row["z"], row["x"], row["y"]) for row in listed(serving, 0, 50, cause)}, wanted, cause
+                )
 
     def test_500_tiles_are_told_the_same_of_each_kind(self):
         """The list, the broken ones and those of a cause, but for their order; and each kind has its own."""
-        kinds = [GDAL, gzip.compress(GDAL), BROKEN, gzip.compress(BROKEN), gzip.compress(b""), gzip.compress(GDAL)[:-9], (TILES / "broken" / "14-KeyIndex.mvt").read_bytes()]
+        kinds = [
+            GDAL,
+            gzip.compress(GDAL),
+            BROKEN,
+            gzip.compress(BROKEN),
+            gzip.compress(b""),
+            gzip.compress(GDAL)[:-9],
+            (TILES / "broken" / "14-KeyIndex.mvt").read_bytes(),
+        ]
         tiles = {place: kinds[number * number % 11 % 7] for number, place in enumerate(whole(5)[300:800])}
         server = self.answering(lambda *place: tiles.get(place))
         words = {
-            "folder": [make_tree(self.room / "tree", tiles)], "MBTiles": [make_mbtiles(self.room / "a.mbtiles", tiles)],
-            "PMTiles": [self.made(archive(tiles, leaf=40, internal=2))], "server": [server.tiles, "--zooms", "4-5"],
+            "folder": [make_tree(self.room / "tree", tiles)],
+            "MBTiles": [make_mbtiles(self.room / "a.mbtiles", tiles)],
+            "PMTiles": [self.made(archive(tiles, leaf=40, internal=2))],
+            "server": [server.tiles, "--zooms", "4-5"],
         }
-        orders = {"folder": None, "MBTiles": lambda place: (*place[:2], -place[2]), "PMTiles": lambda place: tile_id(*place), "server": None}
+        orders = {
+            "folder": None,
+            "MBTiles": lambda place: (*place[:2], -place[2]),
+            "PMTiles": lambda place: tile_id(*place),
+            "server": None,
+        }
         wanted = None
         for kind, which in words.items():
             with Serving(*which) as serving:
                 self.assertEqual([store["kind"] for store in told(serving, "given")["stores"]], [kind])
-                lists = [listed(serving, 0, count, only) for count, only in ((130, ""), (60, "broken"), (60, 22), (60, 14))]
+                lists = [
+                    listed(serving, 0, count, only) for count, only in ((130, ""), (60, "broken"), (60, 22), (60, 14))
+                ]
             found = [[{**row, "key": None, "name": None} for row in sorted(rows, key=place_of)] for rows in lists]
             self.assertEqual([len(found[0]), len(found[1]) > 100], [500, True], kind)
             self.assertEqual(found, wanted or found, kind)
@@ -190,7 +224,13 @@ class Stores(Case):
                 key = quote(rows[-1]["key"])
                 last = [[row["x"], row["y"], row["verdict"] == "refused"] for row in rows[-1:] if row["z"] == 3]
                 self.assertEqual(told(serving, f"stores/0/zoom?z=3&from={key}")["tiles"], last, kind)
-                for query, status in (("z=31", 404), ("", 404), ("z=x", 404), ("z=3&from=x", 400), ('z=3&from=["../../x"]', 400)):
+                for query, status in (
+                    ("z=31", 404),
+                    ("", 404),
+                    ("z=x", 404),
+                    ("z=3&from=x", 400),
+                    ('z=3&from=["../../x"]', 400),
+                ):
                     self.assertEqual(serving.ask("GET", f"stores/0/zoom?{query}")[0], status, (kind, query))
 
     def test_a_zoom_that_takes_long_goes_on(self):
@@ -225,8 +265,15 @@ class Stores(Case):
             keys = [row["key"] for row in rows]
             third = rows[3]
             place = f"{third['z']}/{third['x']}/{third['y']}"
-            for query, wanted in [(f"from={quote(keys[3])}", keys[3:]), (f"after={quote(keys[3])}", keys[4:]), (f"at={place}", keys[3:]), (f"past={place}", keys[4:])]:
-                self.assertEqual([row["key"] for row in told(serving, f"stores/0/tiles?{query}")["tiles"]], wanted, query)
+            for query, wanted in [
+                (f"from={quote(keys[3])}", keys[3:]),
+                (f"after={quote(keys[3])}", keys[4:]),
+                (f"at={place}", keys[3:]),
+                (f"past={place}", keys[4:]),
+            ]:
+                self.assertEqual(
+                    [row["key"] for row in told(serving, f"stores/0/tiles?{query}")["tiles"]], wanted, query
+                )
 
     def test_what_is_no_place_and_no_key(self):
         kinds = self.kinds({(1, 0, 0): GDAL, (1, 1, 0): BROKEN})
@@ -234,12 +281,47 @@ class Stores(Case):
         secret.write_bytes(GDAL)
         with Serving(*kinds.values()) as serving:
             for number in range(len(kinds)):
-                for path in ("2/0/0", "1/0/1", "1/2/0", "1/0/2", "31/0/0", "1/0", "1/0/0/0", "01/0/0", "-1/0/0", "1/0/0.mvt", "../../secret.mvt", "9999999999/0/0", "nothing"):
+                for path in (
+                    "2/0/0",
+                    "1/0/1",
+                    "1/2/0",
+                    "1/0/2",
+                    "31/0/0",
+                    "1/0",
+                    "1/0/0/0",
+                    "01/0/0",
+                    "-1/0/0",
+                    "1/0/0.mvt",
+                    "../../secret.mvt",
+                    "9999999999/0/0",
+                    "nothing",
+                ):
                     self.assertEqual(serving.ask("GET", f"stores/{number}/{path}")[0], 404, path)
-                for key in ("", "x", "{}", "null", "[]", "[1.5]", "[null]", "[true]", "[[1]]", "[-1]", "[1,2]", "[1,2,3,4,5]", "[1e3]", '["../../secret.mvt"]', "[99999999999999999999]",
-                            "[1,0,0,9]", "[1,0,0,-1]", '["1","0","0","0"]', "[" + "1," * 2000 + "1]"):
+                for key in (
+                    "",
+                    "x",
+                    "{}",
+                    "null",
+                    "[]",
+                    "[1.5]",
+                    "[null]",
+                    "[true]",
+                    "[[1]]",
+                    "[-1]",
+                    "[1,2]",
+                    "[1,2,3,4,5]",
+                    "[1e3]",
+                    '["../../secret.mvt"]',
+                    "[99999999999999999999]",
+                    "[1,0,0,9]",
+                    "[1,0,0,-1]",
+                    '["1","0","0","0"]',
+                    "[" + "1," * 2000 + "1]",
+                ):
                     self.assertIn(serving.ask("GET", f"stores/{number}/tile?key={quote(key)}")[0], (400, 404), key)
-                    self.assertIn(serving.ask("GET", f"stores/{number}/tiles?after={quote(key)}")[0], (200, 400, 404), key)
+                    self.assertIn(
+                        serving.ask("GET", f"stores/{number}/tiles?after={quote(key)}")[0], (200, 400, 404), key
+                    )
                 self.assertEqual(serving.ask("GET", f"stores/{number}/tiles?only=x")[0], 404)
             self.assertEqual(serving.ask("GET", f"stores/{len(kinds)}/tiles")[0], 404)
 
@@ -256,7 +338,9 @@ class Stores(Case):
                 self.assertEqual((row["verdict"], row["cause"]), ("refused", 22), kind)
                 self.assertEqual(serving.ask("GET", "stores/0/0/0/1")[0], 404, kind)
         server = self.answering(lambda *place: GDAL)
-        with Serving(self.made(archive({(0, 0, 0): GDAL}))) as archived, Serving(server.tiles, "--zooms", "0-1") as served:
+        with Serving(self.made(archive({(0, 0, 0): GDAL}))) as archived, Serving(
+            server.tiles, "--zooms", "0-1"
+        ) as served:
             for serving in (archived, served):
                 for path in ("0/1/0", "0/0/1", "1/2/0", "30/9999999999/0"):
                     self.assertEqual(serving.ask("GET", f"stores/0/{path}")[0], 404, path)
@@ -277,19 +361,35 @@ class Stores(Case):
         (self.room / "list.txt").write_text("gone.mvt\n")
         with Serving(path, self.room / "list.txt") as serving:
             rows = {row["name"] or f"{row['z']}/{row['x']}/{row['y']}": row for row in listed(serving, 0)}
-            self.assertEqual({name: row["verdict"] for name, row in rows.items()}, {"1/0/0": "empty", "1/1/0": "refused", "x/1/2": "refused"})
+            self.assertEqual(
+                {name: row["verdict"] for name, row in rows.items()},
+                {"1/0/0": "empty", "1/1/0": "refused", "x/1/2": "refused"},
+            )
             self.assertEqual(serving.ask("GET", f"stores/0/tile?key={quote(rows['x/1/2']['key'])}")[::2], (200, b"\0"))
             [row] = listed(serving, 1)
-            self.assertEqual((row["name"], row["verdict"], row["notes"]), ("gone.mvt", "unread", "No such file or directory"))
+            self.assertEqual(
+                (row["name"], row["verdict"], row["notes"]), ("gone.mvt", "unread", "No such file or directory")
+            )
 
     def test_odd_rows_are_listed_opened_and_hide_nothing(self):
         """Whatever stands in their places, one tile to a page of the list; and a broken tile behind them is found."""
         odd = [None, 1.5, float("inf"), b"\0\xff", "x" * 1500, "", "[", -1]
-        rows = [(zoom, 0, 0, GDAL + bytes([0x28, number])) for number, zoom in enumerate(odd)] + [(63, 0, -(2**63), GDAL), (1, None, "y", GDAL), (30, 0, 0, BROKEN), (30, 1, 0, GDAL)]
-        for kind, index in [("bare", ""), ("indexed", "create unique index places on tiles (zoom_level, tile_column, tile_row)"), ("view", "")]:
+        rows = [(zoom, 0, 0, GDAL + bytes([0x28, number])) for number, zoom in enumerate(odd)] + [
+            (63, 0, -(2**63), GDAL),
+            (1, None, "y", GDAL),
+            (30, 0, 0, BROKEN),
+            (30, 1, 0, GDAL),
+        ]
+        for kind, index in [
+            ("bare", ""),
+            ("indexed", "create unique index places on tiles (zoom_level, tile_column, tile_row)"),
+            ("view", ""),
+        ]:
             path = self.room / f"{kind}.mbtiles"
             with closing(sqlite3.connect(path)) as database, database:
-                database.execute(f"create table {'held' if kind == 'view' else 'tiles'} (zoom_level, tile_column, tile_row, tile_data)")
+                database.execute(
+                    f"create table {'held' if kind == 'view' else 'tiles'} (zoom_level, tile_column, tile_row, tile_data)"
+                )
                 database.executemany(f"insert into {'held' if kind == 'view' else 'tiles'} values (?, ?, ?, ?)", rows)
                 database.execute("create view tiles as select * from held" if kind == "view" else index or "select 1")
             with Serving(path) as serving:
@@ -318,12 +418,24 @@ class Stores(Case):
         path = make_mbtiles(self.room / "a.mbtiles", {(5, 17, 11): GDAL})
         stored = {"name": "a.mbtiles", "kind": "MBTiles", "size": path.stat().st_size}
         with Serving(path, "5/17/11", TILES / "gdal.mvt", self.room / "a.mbtiles") as serving:
-            self.assertEqual(given(serving), {
-                "files": ["gdal.mvt"], "stores": [stored] * 2, "first": {"store": 0, "place": "5/17/11"},
-            })
-        for words, why in [((path, "5/17/12"), "it has no tile 5/17/12"), ((path, "5/17"), "No such file"), (("5/17/11", path), "No such file"), ((self.room / "folder",), "no tiles")]:
+            self.assertEqual(
+                given(serving),
+                {
+                    "files": ["gdal.mvt"],
+                    "stores": [stored] * 2,
+                    "first": {"store": 0, "place": "5/17/11"},
+                },
+            )
+        for words, why in [
+            ((path, "5/17/12"), "it has no tile 5/17/12"),
+            ((path, "5/17"), "No such file"),
+            (("5/17/11", path), "No such file"),
+            ((self.room / "folder",), "no tiles"),
+        ]:
             (self.room / "folder").mkdir(exist_ok=True)
-            run = subprocess.run([*COMMAND, "--no-browser", *map(str, words)], capture_output=True, text=True, timeout=60)
+            run = subprocess.run(
+                [*COMMAND, "--no-browser", *map(str, words)], capture_output=True, text=True, timeout=60
+            )
             self.assertEqual((run.returncode, run.stdout), (3, ""), run.stderr)
             self.assertRegex(run.stderr, f"^mvt-page: .*{why}.*\n$")
 
@@ -336,7 +448,11 @@ class Archives(Case):
             rows = listed(serving, 0, 500)
             self.assertEqual([place_of(row) for row in rows], places)
             at = 1200
-            for query, wanted in [(f"from={quote(rows[at]['key'])}", at), (f"after={quote(rows[at]['key'])}", at + 1), ("at=%d/%d/%d" % places[at], at)]:
+            for query, wanted in [
+                (f"from={quote(rows[at]['key'])}", at),
+                (f"after={quote(rows[at]['key'])}", at + 1),
+                ("at=%d/%d/%d" % places[at], at),
+            ]:
                 page = told(serving, f"stores/0/tiles?count=3&{query}")
                 self.assertEqual([place_of(row) for row in page["tiles"]], places[wanted : wanted + 3])
             self.assertEqual(serving.ask("GET", "stores/0/%d/%d/%d" % places[at])[2], tiles[places[at]])
@@ -372,7 +488,10 @@ class Archives(Case):
             self.assertEqual((rows[at]["verdict"], rows[at]["z"]), ("unread", None))
             [found] = listed(serving, 0, 10, "broken")
             self.assertEqual(found, rows[at])
-            for path in (f"tile?key={quote(found['key'])}", "%d/%d/%d" % next(place for place in tiles if tile_id(*place) in damaged)):
+            for path in (
+                f"tile?key={quote(found['key'])}",
+                "%d/%d/%d" % next(place for place in tiles if tile_id(*place) in damaged),
+            ):
                 status, _, body = serving.ask("GET", f"stores/0/{path}")
                 self.assertEqual((status, found["notes"] in body.decode()), (502, True), body)
             self.assertEqual(serving.ask("GET", "stores/0/9/1/1")[0], 404)
@@ -394,8 +513,10 @@ class Archives(Case):
             found = list(store.since(None))
             keys = [key for key, *_ in found]
             self.assertEqual(keys, sorted(set(keys)))
-            self.assertEqual(sorted((str(address), str(content)) for _, address, content in found),
-                             sorted((place, str(content)) for address, content in audited for place in places_of(address)))
+            self.assertEqual(
+                sorted((str(address), str(content)) for _, address, content in found),
+                sorted((place, str(content)) for address, content in audited for place in places_of(address)),
+            )
             for number, (key, address, content) in enumerate(found):
                 self.assertEqual([each for each, *_ in store.since(key)], keys[number:])
                 self.assertEqual([each for each, *_ in store.after(key)], keys[number + 1 :])
@@ -408,7 +529,9 @@ class Archives(Case):
         """Keys go up, and nothing but plain errors comes."""
         good = archive({place: b"tile %d" % number for number, place in enumerate(whole(2))}, leaf=4, internal=1)
         end = int.from_bytes(good[56:64], "little")
-        versions = [good[:at] + bytes([put]) + good[at + 1 :] for at in range(end) for put in (0, 1, 0x7F, 0xFF, good[at] ^ 1)]
+        versions = [
+            good[:at] + bytes([put]) + good[at + 1 :] for at in range(end) for put in (0, 1, 0x7F, 0xFF, good[at] ^ 1)
+        ]
         tried = 0
         for content in [*versions, *(good[:cut] for cut in range(len(good)))]:
             store = stores.found(str(self.made(content)))
@@ -424,9 +547,16 @@ class Archives(Case):
 
     def test_archives_that_are_none(self):
         good = archive({place: GDAL for place in whole(2)}, leaf=4, internal=2)
-        for content, why in [(b"", "cut off: the header has 127 bytes"), (good[:-1], "the tiles end at"), (good[:7] + b"\2" + good[8:], "version 3 is read"),
-                             (good[:99] + b"\2" + good[100:], "the type PNG"), (archive({}), "no tiles in this archive")]:
-            run = subprocess.run([*COMMAND, "--no-browser", str(self.made(content))], capture_output=True, text=True, timeout=60)
+        for content, why in [
+            (b"", "cut off: the header has 127 bytes"),
+            (good[:-1], "the tiles end at"),
+            (good[:7] + b"\2" + good[8:], "version 3 is read"),
+            (good[:99] + b"\2" + good[100:], "the type PNG"),
+            (archive({}), "no tiles in this archive"),
+        ]:
+            run = subprocess.run(
+                [*COMMAND, "--no-browser", str(self.made(content))], capture_output=True, text=True, timeout=60
+            )
             self.assertEqual((run.returncode, run.stdout), (3, ""))
             self.assertRegex(run.stderr, f"^mvt-page: .*{why}.*\n$")
 
@@ -436,7 +566,9 @@ class Servers(Case):
         """By zooms and bounds, each when the list comes there; and a place that is opened costs one request."""
         server = self.answering(lambda z, x, y: GDAL if (x + y) % 2 == 0 else None)
         asked = lambda: [path for path, _ in server.asked]
-        with Serving(server.tiles, "--bounds", "-180,-85,0,85", "3/2/4", "--zooms", "2-3", "--requests", "3") as serving:
+        with Serving(
+            server.tiles, "--bounds", "-180,-85,0,85", "3/2/4", "--zooms", "2-3", "--requests", "3"
+        ) as serving:
             stored = {"name": server.tiles, "kind": "server", "size": None}
             self.assertEqual(given(serving), {"files": [], "stores": [stored], "first": {"store": 0, "place": "3/2/4"}})
             self.assertEqual(asked(), [])
@@ -455,23 +587,41 @@ class Servers(Case):
 
     def test_what_a_server_answers_wrongly_is_told_at_its_place(self):
         answers = {
-            0: (200, {}, GDAL), 1: (503, {}, b"later"), 3: sent(b""), 4: sent(b"HTTP/1.1 200 OK\r\nContent-Length: 20\r\n\r\nten bytes.."), 5: (204, {}, b""),
-            6: (200, {"Content-Encoding": "gzip"}, gzip.compress(GDAL)[:-9]), 7: (200, {"Content-Encoding": "br"}, b"x"), 8: (301, {"Location": "/"}, b""), 9: (200, {}, BROKEN),
+            0: (200, {}, GDAL),
+            1: (503, {}, b"later"),
+            3: sent(b""),
+            4: sent(b"HTTP/1.1 200 OK\r\nContent-Length: 20\r\n\r\nten bytes.."),
+            5: (204, {}, b""),
+            6: (200, {"Content-Encoding": "gzip"}, gzip.compress(GDAL)[:-9]),
+            7: (200, {"Content-Encoding": "br"}, b"x"),
+            8: (301, {"Location": "/"}, b""),
+            9: (200, {}, BROKEN),
         }
         server = self.answering(lambda z, x, y: answers.get(4 * x + y) if z == 2 else None)
         wanted = {
-            0: ("accepted", ""), 1: ("unread", "503 Service Unavailable"),
-            3: ("unread", "the server ended the connection and answered nothing"), 4: ("unread", "the body ends early: 11 of 20 bytes came"),
-            6: ("not unpacked", "cut off"), 7: ("unread", "it answers in the encoding br"), 8: ("unread", "301 Moved Permanently"), 9: ("refused", ""),
+            0: ("accepted", ""),
+            1: ("unread", "503 Service Unavailable"),
+            3: ("unread", "the server ended the connection and answered nothing"),
+            4: ("unread", "the body ends early: 11 of 20 bytes came"),
+            6: ("not unpacked", "cut off"),
+            7: ("unread", "it answers in the encoding br"),
+            8: ("unread", "301 Moved Permanently"),
+            9: ("refused", ""),
         }
         with Serving(server.tiles, "--zooms", "1-2", "--timeout", "60") as serving:
             rows = {4 * row["x"] + row["y"]: (row["verdict"], row["notes"]) for row in listed(serving, 0, 5)}
             self.assertEqual(rows, wanted)
             found = [4 * row["x"] + row["y"] for row in listed(serving, 0, 1, "broken")]
-            self.assertEqual(found, [number for number, (verdict, _) in sorted(wanted.items()) if verdict != "accepted"])
+            self.assertEqual(
+                found, [number for number, (verdict, _) in sorted(wanted.items()) if verdict != "accepted"]
+            )
             for number, (verdict, notes) in wanted.items():
                 status, _, body = serving.ask("GET", "stores/0/2/%d/%d" % divmod(number, 4))
-                self.assertEqual((status, body.decode().strip() if status == 502 else ""), (502, notes) if verdict == "unread" else (200, ""), number)
+                self.assertEqual(
+                    (status, body.decode().strip() if status == 502 else ""),
+                    (502, notes) if verdict == "unread" else (200, ""),
+                    number,
+                )
             self.assertEqual(serving.ask("GET", "stores/0/2/1/1")[0], 404)
 
     def test_an_answer_that_takes_too_long_is_told_at_its_place(self):
@@ -489,10 +639,16 @@ class Servers(Case):
         server = self.answering(lambda z, x, y: lambda _: over.wait(600))
         self.addCleanup(over.set)
         with Serving(server.tiles, "--zooms", "0-3", "--timeout", "600") as serving:
-            for path in ["stores/0/tiles", "stores/0/tiles?only=broken&count=1", *("stores/0/1/%d/%d" % divmod(number, 2) for number in range(4))] * 2:
+            for path in [
+                "stores/0/tiles",
+                "stores/0/tiles?only=broken&count=1",
+                *("stores/0/1/%d/%d" % divmod(number, 2) for number in range(4)),
+            ] * 2:
                 connection = socket.create_connection(("127.0.0.1", serving.port))
                 self.addCleanup(connection.close)
-                connection.sendall(f"GET {serving.path}{path} HTTP/1.1\r\nHost: 127.0.0.1:{serving.port}\r\n\r\n".encode())
+                connection.sendall(
+                    f"GET {serving.path}{path} HTTP/1.1\r\nHost: 127.0.0.1:{serving.port}\r\n\r\n".encode()
+                )
             while server.now < 8:
                 time.sleep(0.05)
             serving.call("judge", GDAL)
@@ -502,7 +658,9 @@ class Servers(Case):
         server = self.answering(lambda z, x, y: lambda _: time.sleep(0.5))
         with Serving(server.tiles, "--zooms", "0-6") as serving:
             with socket.create_connection(("127.0.0.1", serving.port)) as connection:
-                connection.sendall(f"GET {serving.path}stores/0/tiles?only=22 HTTP/1.1\r\nHost: 127.0.0.1:{serving.port}\r\n\r\n".encode())
+                connection.sendall(
+                    f"GET {serving.path}stores/0/tiles?only=22 HTTP/1.1\r\nHost: 127.0.0.1:{serving.port}\r\n\r\n".encode()
+                )
                 while len(server.asked) < 8:
                     time.sleep(0.05)
             asked = -1
@@ -528,13 +686,24 @@ class Servers(Case):
         with socket.create_server(("127.0.0.1", 0)) as held:
             address = f"http://127.0.0.1:{held.getsockname()[1]}/{{z}}/{{x}}/{{y}}"
         with Serving(address, "--zooms", "0-1") as serving:
-            self.assertEqual({(row["verdict"], row["notes"]) for row in listed(serving, 0)}, {("unread", "Connection refused")})
+            self.assertEqual(
+                {(row["verdict"], row["notes"]) for row in listed(serving, 0)}, {("unread", "Connection refused")}
+            )
             self.assertEqual(serving.ask("GET", "stores/0/1/1/0")[::2], (502, b"Connection refused\n"))
 
     def test_keys_that_are_none(self):
         server = self.answering(lambda *place: GDAL)
         with Serving(server.tiles, "--zooms", "1") as serving:
-            for key, status in [("[1,0,0]", 200), ("[2,0,0]", 404), ("[1,2,0]", 400), ("[1,0,-1]", 400), ("[31,0,0]", 400), ("[1,0]", 400), ('["1",0,0]', 400), ('["../x",0,0]', 400)]:
+            for key, status in [
+                ("[1,0,0]", 200),
+                ("[2,0,0]", 404),
+                ("[1,2,0]", 400),
+                ("[1,0,-1]", 400),
+                ("[31,0,0]", 400),
+                ("[1,0]", 400),
+                ('["1",0,0]', 400),
+                ('["../x",0,0]', 400),
+            ]:
                 self.assertEqual(serving.ask("GET", f"stores/0/tile?key={quote(key)}")[0], status, key)
             self.assertEqual([path for path, _ in server.asked], ["/1/0/0"])
 
@@ -548,11 +717,18 @@ class Servers(Case):
         tree = make_tree(self.room / "tree", {(0, 0, 0): GDAL})
         tiles = server.address + "/{z}/{x}/{y}"
         for words, status, why in [
-            ([tiles], 3, "which zooms. say --zooms 0-14"), ([tiles, "5/1/1", "--zooms", "0-3"], 3, "it has no tile 5/1/1"), ([server.address + "/{z}/{x}"], 3, "an address of tiles has"),
-            ([server.address + "/nothing.json"], 3, "no TileJSON"), ([tree, "--zooms", "0-3"], 2, "of a server, and none is named"),
-            ([tiles, "--zooms", "3-1"], 2, "no range of zooms"), ([tiles, "--bounds", "-1,2,3"], 2, "no west,south,east,north"), ([tiles, "--zooms", "0", "--timeout", "0"], 2, "no number from 1 on"),
+            ([tiles], 3, "which zooms. say --zooms 0-14"),
+            ([tiles, "5/1/1", "--zooms", "0-3"], 3, "it has no tile 5/1/1"),
+            ([server.address + "/{z}/{x}"], 3, "an address of tiles has"),
+            ([server.address + "/nothing.json"], 3, "no TileJSON"),
+            ([tree, "--zooms", "0-3"], 2, "of a server, and none is named"),
+            ([tiles, "--zooms", "3-1"], 2, "no range of zooms"),
+            ([tiles, "--bounds", "-1,2,3"], 2, "no west,south,east,north"),
+            ([tiles, "--zooms", "0", "--timeout", "0"], 2, "no number from 1 on"),
         ]:
-            run = subprocess.run([*COMMAND, "--no-browser", *map(str, words)], capture_output=True, text=True, timeout=60)
+            run = subprocess.run(
+                [*COMMAND, "--no-browser", *map(str, words)], capture_output=True, text=True, timeout=60
+            )
             self.assertEqual((run.returncode, run.stdout), (status, ""), words)
             self.assertRegex(run.stderr.splitlines()[-1], f"^mvt-page: .*({why})")
 
@@ -572,6 +748,9 @@ class Large(unittest.TestCase):
                     query = f"&after={quote(page['next'])}"
                 spent = time.monotonic() - began
                 if os.environ.get("TELL"):
-                    print(f"a broken tile behind 150,000: {spent:.1f} s, the longest answer {longest:.1f} s, the server {serving.memory('VmHWM'):.0f} MB", flush=True)
+                    print(
+                        f"a broken tile behind 150,000: {spent:.1f} s, the longest answer {longest:.1f} s, the server {serving.memory('VmHWM'):.0f} MB",
+                        flush=True,
+                    )
                 self.assertEqual((looked, page["tiles"][0]["z"], page["tiles"][0]["cause"]), (150_001, 12, 22))
                 self.assertLess(longest, 60)

@@ -19,7 +19,9 @@ void roads(mvt::builder &to) {
     to.line().point(0, 3840).point(2048, 3968).point(4096, 3840);
 }
 
-void places(mvt::builder &to) { to.layer("places", 512).feature(MVT_POINTS).tag("height", 3.25).point(128, 128).point(384, 256); }
+void places(mvt::builder &to) {
+    to.layer("places", 512).feature(MVT_POINTS).tag("height", 3.25).point(128, 128).point(384, 256);
+}
 
 } // namespace
 

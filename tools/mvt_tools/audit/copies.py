@@ -43,7 +43,9 @@ def copy_of(results: Results, store: Store, state: State, to: Path) -> "Copy":
     size = os.path.getsize(store.path)
     most = max(bounds.PLACES, size)
     if isinstance(store, PMTiles) and state.tiles > most:
-        raise ResultsError(f"{store.path}: no copy is made of {state.tiles:,} tiles in {size:,} bytes; {most:,} are the most")
+        raise ResultsError(
+            f"{store.path}: no copy is made of {state.tiles:,} tiles in {size:,} bytes; {most:,} are the most"
+        )
     return _MBTilesFile(store, Part(to, results.file.parent, state.digest))
 
 
@@ -61,9 +63,7 @@ class _Batch:
 
     def is_full(self) -> bool:
         return (
-            len(self.tiles) >= bounds.TILES_AT_A_TIME
-            or self.size > bounds.BYTES_AT_A_TIME
-            or self.places >= bounds.RUN
+            len(self.tiles) >= bounds.TILES_AT_A_TIME or self.size > bounds.BYTES_AT_A_TIME or self.places >= bounds.RUN
         )
 
 

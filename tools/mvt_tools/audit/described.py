@@ -35,7 +35,11 @@ def differences(results: Results, store: Store) -> List[str]:
         found = description(store.metadata())
     except UNREADABLE as why:
         return [f"its description can't be read: {shown(str(why) or 'out of memory')}"]
-    return [*_of_zooms(results, store.path, found), *_of_bounds(results, store.path, found), *_of_layers(results, store.path, found)]
+    return [
+        *_of_zooms(results, store.path, found),
+        *_of_bounds(results, store.path, found),
+        *_of_layers(results, store.path, found),
+    ]
 
 
 def description(said: Dict[str, Any]) -> Description:
@@ -108,7 +112,9 @@ def _of_bounds(results: Results, path: str, found: Description) -> Iterator[str]
 def _of_layers(results: Results, path: str, found: Description) -> Iterator[str]:
     if found.layers is None:
         return
-    query = "select layer, sum(tiles) from layer_sizes where store = ? and layer is not null group by layer order by 2 desc"
+    query = (
+        "select layer, sum(tiles) from layer_sizes where store = ? and layer is not null group by layer order by 2 desc"
+    )
     there = dict(results.database.execute(query, (path,)))
     unnamed = [f"{_quoted(name)} in {tiles:,}" for name, tiles in there.items() if name not in found.layers]
     if unnamed:
@@ -116,9 +122,13 @@ def _of_layers(results: Results, path: str, found: Description) -> Iterator[str]
     absent = [_quoted(name) for name in found.layers if name not in there]
     if absent:
         yield f"vector_layers has layers that no accepted tile has: {_few(absent)}"
-    keys = "select layer, key from key_sizes where store = ? and layer is not null and key is not null order by layer, key"
+    keys = (
+        "select layer, key from key_sizes where store = ? and layer is not null and key is not null order by layer, key"
+    )
     named = results.database.execute(keys, (path,))
-    unknown = [f"{_quoted(key)} of {_quoted(layer)}" for layer, key in named if key not in (found.layers.get(layer) or {key})]
+    unknown = [
+        f"{_quoted(key)} of {_quoted(layer)}" for layer, key in named if key not in (found.layers.get(layer) or {key})
+    ]
     if unknown:
         yield f"vector_layers lacks keys of accepted tiles: {_few(unknown)}"
 

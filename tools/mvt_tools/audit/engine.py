@@ -83,7 +83,11 @@ def workers(count: int, scheduler: Optional[str], work: Work = judged_part) -> I
 
 
 def run(
-    workers: Workers, results: Results, stores: Sequence[Store], done: Dict[str, Done], told: Told,
+    workers: Workers,
+    results: Results,
+    stores: Sequence[Store],
+    done: Dict[str, Done],
+    told: Told,
     check: Callable[[], None] = lambda: None,
 ) -> List[Lost]:
     """Judges what isn't done yet. Answers the parts that no worker could finish. Between two parts `check` may raise what

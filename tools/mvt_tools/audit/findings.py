@@ -49,7 +49,9 @@ class Found:
     def write(self, database: sqlite3.Connection) -> None:
         counts = ((*kind, tiles) for kind, tiles in self._tiles.items())
         database.executemany("insert into finding_counts values (?, ?, ?)", counts)
-        rows = ((*kind, at.x, at.y, at.name, str(it), it.layer, it.feature) for kind, (at, it) in self._examples.items())
+        rows = (
+            (*kind, at.x, at.y, at.name, str(it), it.layer, it.feature) for kind, (at, it) in self._examples.items()
+        )
         database.executemany("insert into finding_examples values (?, ?, ?, ?, ?, ?, ?, ?)", rows)
 
 

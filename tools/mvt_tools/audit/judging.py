@@ -301,7 +301,9 @@ class _Block:
         self.write()
         database = self._database
         kinds, notes, cells = self._kinds.items(), self._notes.items(), self._cells.items()
-        database.executemany("insert into counts values (?, ?, ?, ?, ?, ?, ?)", ((*kind, tiles) for kind, tiles in kinds))
+        database.executemany(
+            "insert into counts values (?, ?, ?, ?, ?, ?, ?)", ((*kind, tiles) for kind, tiles in kinds)
+        )
         database.executemany("insert into note_counts values (?, ?, ?)", ((*note, tiles) for note, tiles in notes))
         database.executemany("insert into beyond_counts values (?, ?)", self._beyond.items())
         self._found.write(database)
@@ -337,7 +339,16 @@ def _columns(tile: bytes, fault: libmvt.Refused, is_packed: bool) -> Tuple[Any, 
     """The layer, its name, the feature, its id, the place, the cause and its name. What unpacks beyond the limit is too
     large, whatever its front breaks."""
     if is_packed and len(tile) > LIMIT and fault.cause != TOO_LARGE:
-        return (None, None, None, None, LIMIT, TOO_LARGE, CAUSES[TOO_LARGE], f"the front breaks a rule too: {fault.line}")
+        return (
+            None,
+            None,
+            None,
+            None,
+            LIMIT,
+            TOO_LARGE,
+            CAUSES[TOO_LARGE],
+            f"the front breaks a rule too: {fault.line}",
+        )
     id = None if fault.feature_id is None else str(fault.feature_id)
     name = None if fault.layer_name is None else bounds.cut(fault.layer_name)
     return (fault.layer, name, fault.feature, id, fault.at, fault.cause, fault.name)

@@ -10,7 +10,9 @@ def leads_out(store: Store, address: Address) -> bool:
     if store.kind not in ("folder", "list"):
         return False
     folder = store.path if store.kind == "folder" else os.path.dirname(store.path)
-    return (store.kind == "folder" or os.path.islink(os.path.join(folder, str(address)))) and is_out(folder, str(address))
+    return (store.kind == "folder" or os.path.islink(os.path.join(folder, str(address)))) and is_out(
+        folder, str(address)
+    )
 
 
 def is_out(folder: str, name: str) -> bool:

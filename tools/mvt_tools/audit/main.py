@@ -40,20 +40,28 @@ def _parser() -> argparse.ArgumentParser:
         " SIGTERM. A run that was ended goes on where it was when it is started again.",
     )
     words.add_argument(
-        "stores", nargs="+", metavar="STORE",
+        "stores",
+        nargs="+",
+        metavar="STORE",
         help="a folder {z}/{x}/{y}.mvt or .pbf (.gz too), an .mbtiles or .pmtiles file, a .txt file with a name on each"
         " line, or a server: the address of its tiles with {z}, {x} and {y} (or {-y}) in it, or of its TileJSON",
     )
     words.add_argument("--into", type=Path, metavar="FOLDER", help="where the results go")
     words.add_argument(
-        "--mend", type=Path, metavar="NEW",
+        "--mend",
+        type=Path,
+        metavar="NEW",
         help="also write a copy of a folder, an .mbtiles or a .pmtiles file (as .mbtiles), in which tiles are mended that are"
         " refused for ZeroSegment or FirstRing; without --into the results go to NEW.audit",
     )
     where = words.add_mutually_exclusive_group()
-    where.add_argument("--workers", type=server_options.positive, default=4, metavar="N", help="processes on this machine (4)")
+    where.add_argument(
+        "--workers", type=server_options.positive, default=4, metavar="N", help="processes on this machine (4)"
+    )
     where.add_argument("--scheduler", metavar="ADDRESS", help="a scheduler of Dask, such as tcp://alpha:8786")
-    words.add_argument("--part", type=server_options.positive, metavar="N", help="tiles in a part (a fiftieth; 100 to 50,000)")
+    words.add_argument(
+        "--part", type=server_options.positive, metavar="N", help="tiles in a part (a fiftieth; 100 to 50,000)"
+    )
     words.add_argument("--anew", action="store_true", help="forget the results in the folder, and begin again")
     words.add_argument("--json", action="store_true", help="sum up as JSON")
     server_options.add_to(words)
@@ -74,7 +82,9 @@ def _given(words: Optional[Sequence[str]]) -> argparse.Namespace:
 
 
 @contextlib.contextmanager
-def _copy(given: argparse.Namespace, results: Results, stores: List[Store], states: List[State]) -> Iterator[Optional[Copy]]:
+def _copy(
+    given: argparse.Namespace, results: Results, stores: List[Store], states: List[State]
+) -> Iterator[Optional[Copy]]:
     """The mended copy that is wanted, if one is."""
     if given.mend is None:
         yield None
@@ -86,7 +96,13 @@ def _copy(given: argparse.Namespace, results: Results, stores: List[Store], stat
 
 
 def _mend(
-    given: argparse.Namespace, results: Results, store: Store, state: State, copy: Copy, signals: Signals, found: Dict[str, Any]
+    given: argparse.Namespace,
+    results: Results,
+    store: Store,
+    state: State,
+    copy: Copy,
+    signals: Signals,
+    found: Dict[str, Any],
 ) -> None:
     """Makes the mended copy, and adds it to what was found."""
 

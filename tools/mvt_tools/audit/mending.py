@@ -96,7 +96,9 @@ class Mending:
         self._database.execute("commit")
 
     def _found(self, store: Store) -> Iterator[Tuple[Union[int, str], Union[int, str], str]]:
-        query = f"select z, x, y, name, tiles, cause_name from tiles where store = ? and verdict = ? and cause in {CURABLE}"
+        query = (
+            f"select z, x, y, name, tiles, cause_name from tiles where store = ? and verdict = ? and cause in {CURABLE}"
+        )
         for *place, cause in self._database.execute(query, (store.path, REFUSED)):
             address = Address(*place)
             first = self._key(address)

@@ -151,7 +151,9 @@ class Processes:
             task = worker.parts[0]
             self._tried[task.name()] += 1
             if self._tried[task.name()] == TRIES:
-                given_up.append(Finished(worker.parts.popleft(), None, f"{TRIES} workers ended over it, the last {how}"))
+                given_up.append(
+                    Finished(worker.parts.popleft(), None, f"{TRIES} workers ended over it, the last {how}")
+                )
         self._waiting.extendleft(reversed(worker.parts))
         self._start()
         return given_up

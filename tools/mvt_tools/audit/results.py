@@ -113,7 +113,9 @@ class Results:
             [tables] = database.execute("select count(*) from sqlite_master").fetchone()
             if not tables:
                 # Larger pages than SQLite's own take less time to fill.
-                database.executescript(f"pragma page_size = 16384; begin; {SCHEMA} pragma user_version = {VERSION}; commit;")
+                database.executescript(
+                    f"pragma page_size = 16384; begin; {SCHEMA} pragma user_version = {VERSION}; commit;"
+                )
             elif version != VERSION:
                 raise ResultsError(f"{self.file}: not made by this mvt-audit; --anew begins again")
             database.execute(_COUNTS_INDEX)

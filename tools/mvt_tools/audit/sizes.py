@@ -17,7 +17,14 @@ KEPT, LARGE = 3, 500_000
 # A block has these without the store.
 _TABLES = {
     "zoom_sizes": ("z integer", "tiles integer", "bytes integer", "large integer"),
-    "layer_sizes": ("z integer", "layer text", "tiles integer", "features integer", "bytes integer", "geometry integer"),
+    "layer_sizes": (
+        "z integer",
+        "layer text",
+        "tiles integer",
+        "features integer",
+        "bytes integer",
+        "geometry integer",
+    ),
     "key_sizes": ("layer text", "key text", "bytes integer"),
     "largest": ("z integer", "x integer", "y integer", "name text", "bytes integer", "features integer"),
 }

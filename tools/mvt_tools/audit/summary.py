@@ -51,7 +51,9 @@ def told(results: Results, timed: Timed, lost: Sequence[Lost], audited: Sequence
         "beyond_zooms": [{"z": z, "tiles": tiles} for z, tiles in beyond],
         "sizes": sizes.told(results.database),
         "metadata": [
-            {"store": store.path, "difference": each} for store in audited for each in described.differences(results, store)
+            {"store": store.path, "difference": each}
+            for store in audited
+            for each in described.differences(results, store)
         ],
         "unfinished": [part._asdict() for part in lost],
         "seconds": {"start": round(timed.start, 2), "work": round(timed.work, 2), "client": round(timed.client, 2)},

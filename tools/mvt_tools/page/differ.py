@@ -9,7 +9,9 @@ from libmvt import Bounds, Field, Integer
 _Row = TypeVar("_Row")
 
 # Causes whose place is an offset, and so leads to the message that has it, and an index, and so leads to the feature.
-_OFFSET, _INDEX = (next(number for number, each in libmvt.CAUSES.items() if each == name) for name in ("Truncated", "KeyIndex"))
+_OFFSET, _INDEX = (
+    next(number for number, each in libmvt.CAUSES.items() if each == name) for name in ("Truncated", "KeyIndex")
+)
 
 # The names of the fields that tiles know, by the message that has them.
 _NAMES: Dict[str, Dict[int, str]] = {

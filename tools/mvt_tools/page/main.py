@@ -31,7 +31,9 @@ def _parser() -> argparse.ArgumentParser:
         " can't be read or written.",
     )
     words.add_argument(
-        "what", nargs="*", metavar="WHAT",
+        "what",
+        nargs="*",
+        metavar="WHAT",
         help="a file with a tile, or a store: a folder {z}/{x}/{y}.mvt or .pbf (.gz too), an .mbtiles or .pmtiles file, a"
         " .txt file with a name on each line, or a server, by the address of its tiles with {z}, {x} and {y} (or {-y}),"
         " or of its TileJSON; after a store, Z/X/Y is the place of the tile that opens first; a folder with .mbtiles and"

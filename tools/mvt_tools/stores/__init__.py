@@ -97,7 +97,8 @@ class Store(ABC):
 
     def metadata(self) -> Dict[str, Any]:
         """What the store says of itself, by the names of TileJSON (minzoom, maxzoom, bounds, vector_layers) or of MBTiles
-        (texts, and `json`); nothing where it says nothing. Raises OSError, StoreError and ValueError where it can't be read."""
+        (texts, and `json`); nothing where it says nothing. Raises OSError, StoreError and ValueError where it can't be read.
+        """
         return {}
 
     def link(self, address: Address) -> Optional[str]:
@@ -115,7 +116,8 @@ class Store(ABC):
     def since(self, key: Optional[Key]) -> Iterator[Tuple[Key, Address, Content]]:
         """The tiles from a key on, or all, each with its key: in the order of z, x and y where the store can tell them
         so. A place whose content is None has no tile. A store that waits tells a NotYet with the next key every while that
-        its tile doesn't come. Raises ValueError for a key that is none of this kind of store, OSError and StoreError."""
+        its tile doesn't come. Raises ValueError for a key that is none of this kind of store, OSError and StoreError.
+        """
         self.check()
         return iter(())
 

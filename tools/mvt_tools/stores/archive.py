@@ -158,7 +158,7 @@ def unpacked(stored: bytes, compression: int, most: int) -> bytes:
         if compression == ZSTD:
             return _unzstded(module.ZstdDecompressor(max_window_size=1 << 27), stored, most)
         return _unbrotlied(module.Decompressor(), stored, most)
-    except (module.ZstdError if compression == ZSTD else module.error) as why:
+    except module.ZstdError if compression == ZSTD else module.error as why:
         raise ArchiveError(f"{_COMPRESSIONS[compression]}: {why}") from why
 
 

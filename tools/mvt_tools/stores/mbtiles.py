@@ -127,7 +127,9 @@ class MBTiles(Store):
                 for name, value, length in database.rows(f"{query} limit {SAID_ROWS + 1}"):
                     left -= length
                     if left < 0 or len(held) == SAID_ROWS:
-                        raise StoreError(f"{self.path}: its metadata are more than {SAID:,} bytes, or {SAID_ROWS:,} rows")
+                        raise StoreError(
+                            f"{self.path}: its metadata are more than {SAID:,} bytes, or {SAID_ROWS:,} rows"
+                        )
                     held.append((name, value))
         except sqlite3.Error as why:
             raise self._error(why) from why
@@ -210,7 +212,9 @@ class MBTiles(Store):
         except sqlite3.OperationalError:
             told = None
         if told is not None and told[0] not in ("pbf", "mvt"):
-            raise StoreError(f"{self.path}: its tiles are of the format {shown(reprlib.repr(told[0]))}, and not of 'pbf'")
+            raise StoreError(
+                f"{self.path}: its tiles are of the format {shown(reprlib.repr(told[0]))}, and not of 'pbf'"
+            )
         if database.row("select 1 from tiles limit 1") is None:
             raise StoreError(f"{self.path}: no tiles in this MBTiles file")
 
@@ -316,7 +320,9 @@ def _places(database: Watched, order: Tuple[str, ...], spot: Spot) -> List[Addre
     where, bound = _from(order, spot)
     columns = ", ".join(map(_named, order))
     try:
-        rows = foreign.some(database.rows(f"select {columns} from tiles {where} limit 2 offset {spot.behind}", bound), 2)
+        rows = foreign.some(
+            database.rows(f"select {columns} from tiles {where} limit 2 offset {spot.behind}", bound), 2
+        )
     except sqlite3.Error:
         return []
     return [_address((None, *row)) if order == _PLACE else Address(None, None, None, f"row {row[0]}") for row in rows]
@@ -361,7 +367,10 @@ def _selected(numbers: Optional[str]) -> str:
 
 def _numbers(database: Watched) -> Optional[str]:
     """The name of the numbers of rows: the first that no column has; None where rows have none, as in a view."""
-    if database.row("select 1 from sqlite_master where lower(name) = 'tiles' and type = 'table' and rootpage > 0") is None:
+    if (
+        database.row("select 1 from sqlite_master where lower(name) = 'tiles' and type = 'table' and rootpage > 0")
+        is None
+    ):
         return None
     columns = {str(row[1]).lower() for row in database.rows("pragma table_xinfo(tiles)")}
     for name in ("rowid", "_rowid_", "oid"):

@@ -127,7 +127,11 @@ class PMTiles(Store):
             section.check("metadata", os.fstat(file.fileno()).st_size)
             if length > SAID:
                 raise ValueError(f"its metadata have {length:,} bytes; {SAID:,} are the most")
-            content = unpacked(foreign.piece(file.fileno(), offset, length), self.header.internal, SAID + 1) if length else b"{}"
+            content = (
+                unpacked(foreign.piece(file.fileno(), offset, length), self.header.internal, SAID + 1)
+                if length
+                else b"{}"
+            )
         if len(content) > SAID:
             raise ValueError(f"its metadata unpack to more than {SAID:,} bytes")
         said = foreign.parsed(content)
@@ -280,7 +284,9 @@ class PMTiles(Store):
         for found in self._walked(file, self._root()):
             entries += found.entries if isinstance(found, Own) else 0
             if entries > most:
-                yield Fault("directories", f"they have more than {most:,} entries, the most that are read of such an archive")
+                yield Fault(
+                    "directories", f"they have more than {most:,} entries, the most that are read of such an archive"
+                )
                 return
             yield found
 

@@ -17,7 +17,20 @@ from .waiting import alive
 _STEPS = 10_000
 # What views of tiles call. Other functions may take for ever in one step.
 _FUNCTIONS = {
-    *("coalesce", "ifnull", "iif", "nullif", "typeof", "abs", "length", "lower", "upper", "substr", "substring", "zeroblob"),
+    *(
+        "coalesce",
+        "ifnull",
+        "iif",
+        "nullif",
+        "typeof",
+        "abs",
+        "length",
+        "lower",
+        "upper",
+        "substr",
+        "substring",
+        "zeroblob",
+    ),
     *("count", "max", "min", "sum", "total"),
 }
 
@@ -88,7 +101,9 @@ class Watched(sqlite3.Connection):
 
     def _allowed(self, action: int, _: Optional[str], function: Optional[str], *others: Optional[str]) -> int:
         self._named += 1
-        if self._named <= bounds.NAMES_OF_A_QUESTION and (action != sqlite3.SQLITE_FUNCTION or str(function).lower() in _FUNCTIONS):
+        if self._named <= bounds.NAMES_OF_A_QUESTION and (
+            action != sqlite3.SQLITE_FUNCTION or str(function).lower() in _FUNCTIONS
+        ):
             return sqlite3.SQLITE_OK
         self._is_denied = True
         return sqlite3.SQLITE_DENY

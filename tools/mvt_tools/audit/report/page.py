@@ -66,7 +66,9 @@ def _head(found: Dict[str, Any]) -> str:
     stores = ", ".join(f"<code>{escape(store['path'])}</code>" for store in found["stores"])
     when = time.strftime("%Y-%m-%d %H:%M")
     verdict = f'<p class="quiet">{stores}, {when}</p><p class="verdict {"bad" if broken else "good"}">{said}.</p>'
-    return verdict + _head_of_mended(found) + _head_of_findings(found) + _head_of_places(found) + _head_of_metadata(found)
+    return (
+        verdict + _head_of_mended(found) + _head_of_findings(found) + _head_of_places(found) + _head_of_metadata(found)
+    )
 
 
 def _head_of_mended(found: Dict[str, Any]) -> str:
@@ -103,14 +105,18 @@ def _counts(results: Results, found: Dict[str, Any]) -> str:
     causes = [(_link(each["cause"], each["cause_name"]), each["tiles"]) for each in found["causes"]]
     layers = [(escape(each["layer_name"]) or "(without a name)", each["tiles"]) for each in found["layers"]]
     notes = list(found["notes"].items())
-    findings = [(f'<a href="#finding-{each["finding"]}">{each["finding"]}</a>', each["tiles"]) for each in found["findings"]]
+    findings = [
+        (f'<a href="#finding-{each["finding"]}">{each["finding"]}</a>', each["tiles"]) for each in found["findings"]
+    ]
     tables = [
         table("Tiles", "Verdict", verdicts, tiles, (named[ACCEPTED], named[EMPTY])),
         table("By cause", "The first rule that a tile breaks", causes, refused),
         zooms("By zoom", "Broken", dict(results.counted("z", BROKEN)), dict(results.counted("z"))),
         table("By layer", "The layer of the first fault", layers, refused),
         table("Notes", "Allowed, and worth a look", notes, tiles, tuple(found["notes"])),
-        table("Findings", "No rule is broken, yet viewers stumble", findings, tiles, tuple(name for name, _ in findings)),
+        table(
+            "Findings", "No rule is broken, yet viewers stumble", findings, tiles, tuple(name for name, _ in findings)
+        ),
         _zooms_of_findings(results, found),
     ]
     return f'<div class="columns">{"".join(tables)}</div>'
@@ -176,7 +182,9 @@ def _example(example: Example, stores: Dict[str, Store], album: pictures.Album) 
         # Names of any length stand before the sentence, and their fronts above.
         said.append(f"<p>{escape(fault.explanation if len(fault.explanation) < bounds.WHY else fault.sentence)}</p>")
     said.append(f'<p class="quiet">{"; ".join(filter(None, told))}</p>')
-    shown = "".join(_pictures(album.of_fault(example.content, fault))) + _bytes(example.content, (fault.start or 0, fault.end or 0))
+    shown = "".join(_pictures(album.of_fault(example.content, fault))) + _bytes(
+        example.content, (fault.start or 0, fault.end or 0)
+    )
     return f'<article>{"".join(said)}<div class="shown">{shown}</div></article>'
 
 
@@ -196,8 +204,7 @@ def _pictures(found: List[pictures.Picture]) -> Iterable[str]:
         yield '<p class="quiet">No picture: nothing of the tile can be drawn, or it is too much for this page.</p>'
     for picture in found:
         source = quote(picture.svg, safe=" =:;,/()!*.-+?@_~")
-        yield f'<figure><img alt="{escape(picture.told)}" src="data:image/svg+xml,{source}">' \
-              f"<figcaption>{escape(picture.told)}</figcaption></figure>"
+        yield f'<figure><img alt="{escape(picture.told)}" src="data:image/svg+xml,{source}">' f"<figcaption>{escape(picture.told)}</figcaption></figure>"
 
 
 def _bytes(tile: bytes, place: Optional[Tuple[int, int]]) -> str:

@@ -32,7 +32,9 @@ def zooms(title: str, head: str, some: Zooms, total: Zooms, is_calm: bool = Fals
     rows = []
     for z in sorted(total, key=lambda z: (z is None, z)):
         tiles = some.get(z, 0)
-        rows.append(_row("unknown" if z is None else str(z), f"{tiles:,} of {total[z]:,}", 100 * tiles / total[z], is_calm))
+        rows.append(
+            _row("unknown" if z is None else str(z), f"{tiles:,} of {total[z]:,}", 100 * tiles / total[z], is_calm)
+        )
     return f"<section><h2>{title}</h2>{_table('Zoom', head, rows)}</section>"
 
 

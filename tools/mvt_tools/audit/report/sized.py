@@ -62,6 +62,8 @@ def _quiet(text: Optional[str]) -> str:
 
 def _tile(each: Dict[str, Any], stores: Dict[str, Store]) -> str:
     address = Address(each["z"], each["x"], each["y"], each["name"])
-    within = f": {size(each['bytes'])}{' bytes' if each['bytes'] < 1000 else ''}, {counted(each['features'], 'feature')}"
+    within = (
+        f": {size(each['bytes'])}{' bytes' if each['bytes'] < 1000 else ''}, {counted(each['features'], 'feature')}"
+    )
     store = stores[each["store"]]
     return f"<article>{heading(each['store'], address, within, stores, store.link(address))}{command(address, store)}</article>"

@@ -34,7 +34,9 @@ def stumbles(results: Results, stores: Dict[str, Store]) -> List[str]:
 
 def _zooms(tiles: Zooms) -> str:
     """`Zoom 4: 3 tiles, zoom 5: 1 tile`."""
-    told = ", ".join(f"{'no zoom' if z is None else f'zoom {z}'}: {counted(count, 'tile')}" for z, count in tiles.items())
+    told = ", ".join(
+        f"{'no zoom' if z is None else f'zoom {z}'}: {counted(count, 'tile')}" for z, count in tiles.items()
+    )
     return told[0].upper() + told[1:]
 
 

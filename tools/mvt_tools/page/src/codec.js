@@ -1,9 +1,9 @@
 // The proved library, asked of the server that served the page. Its calls are those of library/c/mvt.h; how they are spelled
 // is told in tools/mvt_tools/page/calls.py.
-import { STATUS } from './layout.js';
-import { answerOf, explainedOf, framesOf, partsOf, rowsOf } from './spelling.js';
+import {STATUS} from './layout.js';
+import {answerOf, explainedOf, framesOf, partsOf, rowsOf} from './spelling.js';
 
-export const { OK, NO_MEMORY, TOO_LARGE, NO_LAYER } = STATUS;
+export const {OK, NO_MEMORY, TOO_LARGE, NO_LAYER} = STATUS;
 
 /** What is thrown once the server has ended. */
 export class Gone extends Error {
@@ -85,7 +85,7 @@ async function blockOf(response) {
   const reader = response.body.getReader();
   try {
     const block = new Uint8Array(Number(response.headers.get('Content-Length')));
-    for (let at = 0; ;) {
+    for (let at = 0;;) {
       const { done, value } = await reader.read();
       if (done && at < block.length) throw new TypeError('the answer ended early');
       if (done) return block;

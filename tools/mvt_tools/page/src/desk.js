@@ -1,15 +1,15 @@
 // The tile that is open, and what the page may ask of it. It lives in the worker, so that nothing here makes the page wait.
-import { Gone, NO_LAYER, OK } from './codec.js';
-import { FeatureTable } from './features.js';
-import { prepared, readFile } from './files.js';
-import { JsonIndex } from './json-index.js';
-import { allJudged, judged, readRows } from './judging.js';
-import { Finder } from './near.js';
-import { Painter } from './painter.js';
-import { Findings } from './remarks.js';
-import { SHAPES } from './rows.js';
-import { styled } from './styled.js';
-import { text } from './text.js';
+import {Gone, NO_LAYER, OK} from './codec.js';
+import {FeatureTable} from './features.js';
+import {prepared, readFile} from './files.js';
+import {JsonIndex} from './json-index.js';
+import {allJudged, judged, readRows} from './judging.js';
+import {Finder} from './near.js';
+import {Painter} from './painter.js';
+import {Findings} from './remarks.js';
+import {SHAPES} from './rows.js';
+import {styled} from './styled.js';
+import {text} from './text.js';
 
 /** So many bytes, or so many files, are judged by one question. */
 const ASKED_BYTES = 1 << 20;
@@ -45,7 +45,8 @@ export class Desk {
    */
   async open({ source, name }) {
     const { size, read, verdict: unread } = source === null ? this.#fetched : await this.#take(source);
-    if (read === undefined) return { size, note: null, verdict: unread, facts: null, why: null, place: null, shape: null };
+    if (read === undefined)
+      return { size, note: null, verdict: unread, facts: null, why: null, place: null, shape: null };
     this.#bytes = read.bytes;
     this.#tile = this.#codec.open(read.bytes);
     const { verdict, facts = null, why = null } = await this.#read(read, name);
@@ -58,7 +59,7 @@ export class Desk {
   async #placeOf() {
     const [{ place }, { status, bytes }] = [await this.#tile.explain(), await this.#tile.around()];
     if (place === undefined || status !== OK) throw new RangeError('there is no memory for it');
-    return { ...place, ...JSON.parse(text(bytes)) };
+    return {...place, ...JSON.parse(text(bytes)) };
   }
 
   /** The bytes of a source that are to be judged, `read`, and the size of all of it. */
@@ -73,7 +74,7 @@ export class Desk {
     const { verdict, rows } = await readRows(this.#codec, read, name);
     if (verdict.kind === 'unjudged') {
       const { survey = null, ...told } = await this.#judge(read, name);
-      return { ...told, facts: survey?.counts, why: verdict.why };
+      return {...told, facts: survey?.counts, why: verdict.why };
     }
     if (rows === undefined) return { verdict };
     this.#rows = rows;
@@ -111,7 +112,10 @@ export class Desk {
       return await this.#take(source);
     } catch (error) {
       if (error instanceof Gone) throw error;
-      return { size: source.size ?? 0, verdict: { kind: 'unread', fault: null, why: error.message, status: error.status, notes: [], foreign: 0 } };
+      return {
+        size: source.size ?? 0,
+        verdict: { kind: 'unread', fault: null, why: error.message, status: error.status, notes: [], foreign: 0 }
+      };
     }
   }
 
@@ -129,7 +133,8 @@ export class Desk {
 
   /** The notes by kind; or `why` they can't be told. */
   async report() {
-    const { why = null } = this.#survey === null ? (await this.#judge({ bytes: this.#bytes, damaged: null }, '')).verdict : {};
+    const { why = null } =
+      this.#survey === null ? (await this.#judge({ bytes: this.#bytes, damaged: null }, '')).verdict : {};
     return { notes: this.#survey?.kinds() ?? [], why };
   }
 
@@ -199,7 +204,10 @@ export class Desk {
     if (answer.status !== OK || this.#rows === null) return answer;
     const indices = Array.from({ length: this.#rows.layerCount }, (_, index) => index);
     const drawn = indices.filter((index) => this.#rows.layerBox(index).version === 2);
-    return { status: OK, bytes: styled(answer.bytes, drawn.map((index) => (hidden[index] === 1 ? null : colourOf(index)))) };
+    return {
+      status: OK,
+      bytes: styled(answer.bytes, drawn.map((index) => (hidden[index] === 1 ? null : colourOf(index))))
+    };
   }
 
   /** Makes the JSON: how many bytes and layers it has. */
@@ -234,7 +242,11 @@ export class Desk {
 
   #planned(plan) {
     const { hidden, palette, chosen = {} } = plan;
-    return { ...plan, isShown: (index) => hidden[index] !== 1, colours: (index) => chosen[index] ?? palette[index % palette.length] };
+    return {
+      ...plan,
+      isShown: (index) => hidden[index] !== 1,
+      colours: (index) => chosen[index] ?? palette[index % palette.length]
+    };
   }
 
   /** What is near a point of the tile: how many, and the first of them. */
@@ -256,7 +268,7 @@ export class Desk {
   /** All about a feature, and the box that it fills in parts of the tile. */
   feature({ place }) {
     const { extent } = this.#rows.layerBox(this.#rows.layerOf(place));
-    return { ...this.#rows.feature(place), box: this.#finder.boxOf(place).map((edge) => edge / extent) };
+    return {...this.#rows.feature(place), box: this.#finder.boxOf(place).map((edge) => edge / extent) };
   }
 
   /** The place of a feature among all, by its layer and its index there. */

@@ -1,6 +1,6 @@
 // Draws a tile's rows on a canvas, in pieces, so that whoever draws can stop or do other things between them.
-import { LINES, POINTS, POLYGONS } from './rows.js';
-import { Sheet } from './sheet.js';
+import {LINES, POINTS, POLYGONS} from './rows.js';
+import {Sheet} from './sheet.js';
 
 /** So many milliseconds a piece may last. */
 const PIECE = 40;
@@ -127,7 +127,8 @@ class LayerPen {
     for (let part = first; part < end; part += 1) this.#trace(part, true);
     this.#context.fill('nonzero');
     if (this.#sheet === null) this.#stroke();
-    else for (let part = first; part < end; part += 1) this.#plot(part, true);
+    else
+      for (let part = first; part < end; part += 1) this.#plot(part, true);
     this.#stroked = 0;
   }
 

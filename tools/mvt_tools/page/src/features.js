@@ -1,5 +1,5 @@
 // The features of a layer as a table: columns for the keys, and the features that a filter lets through.
-import { SHAPES } from './rows.js';
+import {SHAPES} from './rows.js';
 
 /** So many keys become columns; the other attributes stand with the feature alone. */
 const COLUMNS = 60;
@@ -50,7 +50,8 @@ export class FeatureTable {
   #found(sought) {
     const rows = this.#rows;
     const { values, features } = this.#layer;
-    const isFound = Uint8Array.from({ length: values.len }, (_, value) => rows.value(values.start + value).text.toLowerCase().includes(sought));
+    const isFound = Uint8Array.from(
+      { length: values.len }, (_, value) => rows.value(values.start + value).text.toLowerCase().includes(sought));
     const shapes = SHAPES.map((shape) => shape.includes(sought));
     const places = [];
     for (let place = features.start; place < features.start + features.len; place += 1) {
@@ -84,6 +85,12 @@ export class FeatureTable {
       if (column >= 0) cells[column] = this.#rows.value(this.#layer.values.start + value).text.slice(0, CELL);
     });
     const index = place - this.#layer.features.start;
-    return { place, index, id: this.#rows.idOf(place)?.toString() ?? null, shape: SHAPES[this.#rows.shapeOf(place)], cells };
+    return {
+      place,
+      index,
+      id: this.#rows.idOf(place)?.toString() ?? null,
+      shape: SHAPES[this.#rows.shapeOf(place)],
+      cells
+    };
   }
 }

@@ -1,5 +1,5 @@
 // The bytes of files: read, unpacked, and cut behind the limit.
-import { LIMIT } from './layout.js';
+import {LIMIT} from './layout.js';
 
 /** One byte more than a tile may have: what is longer is judged the same. */
 const MOST = LIMIT + 1;

@@ -7,7 +7,10 @@ export function floatText(kind, bits) {
   const isFloat = kind === 'float';
   cell.setBigUint64(0, isFloat ? bits << 32n : bits);
   const value = isFloat ? cell.getFloat32(0) : cell.getFloat64(0);
-  return { text: isFloat ? shortFloat(value) : shortest(value), bits: `0x${bits.toString(16).padStart(isFloat ? 8 : 16, '0')}` };
+  return {
+    text: isFloat ? shortFloat(value) : shortest(value),
+    bits: `0x${bits.toString(16).padStart(isFloat ? 8 : 16, '0')}`
+  };
 }
 
 function shortest(value) {

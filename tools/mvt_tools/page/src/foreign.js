@@ -1,12 +1,13 @@
 // Texts from files, which may hold anything: shown apart from the page's own words, with their controls told.
-import { element } from './dom.js';
-import { grouped } from './text.js';
+import {element} from './dom.js';
+import {grouped} from './text.js';
 
 /** So many letters of a text are shown at first. */
 const SHOWN = 120;
 
 /** Controls, and what turns the direction of a text or can't be seen; a joiner belongs to the words of many languages. */
-const CONTROLS = /[\u0000-\u001f\u007f-\u009f\u00ad\u061c\u200b\u200e\u200f\u2028-\u202e\u2060-\u206f\ufeff\ufff9-\ufffb]|[\u{e0000}-\u{e007f}]/gu;
+const CONTROLS =
+  /[\u0000-\u001f\u007f-\u009f\u00ad\u061c\u200b\u200e\u200f\u2028-\u202e\u2060-\u206f\ufeff\ufff9-\ufffb]|[\u{e0000}-\u{e007f}]/gu;
 
 function spelledControl(letter) {
   return `U+${letter.codePointAt(0).toString(16).toUpperCase().padStart(4, '0')}`;
@@ -49,7 +50,8 @@ export function foreign(whole, most = SHOWN) {
   const { front, isCut } = frontOf(whole, most);
   const box = element('bdi', {}, lettersOf(front));
   if (!isCut) return box;
-  const more = element('button', { type: 'button', class: 'link more', 'aria-expanded': 'false', onclick: () => turn() }, []);
+  const more =
+    element('button', { type: 'button', class: 'link more', 'aria-expanded': 'false', onclick: () => turn() }, []);
   const turn = (isOpen = more.getAttribute('aria-expanded') === 'false') => {
     box.replaceChildren(...lettersOf(isOpen ? whole : front), isOpen ? '' : '…');
     box.classList.toggle('long', isOpen);

@@ -1,5 +1,5 @@
 // Wheel, fingers and keys on the picture.
-import { moved, zoomed } from './view.js';
+import {moved, zoomed} from './view.js';
 
 /** So many pixels a pointer may move in a click. */
 const STILL = 5;

@@ -1,8 +1,8 @@
 // The bytes as a table: a part of them at a time, with a place marked.
-import { grouped, hexOffset } from './text.js';
-import { element } from './dom.js';
-import { plain } from './foreign.js';
-import { spelledOffset } from './spelled.js';
+import {grouped, hexOffset} from './text.js';
+import {element} from './dom.js';
+import {plain} from './foreign.js';
+import {spelledOffset} from './spelled.js';
 
 const ROWS = 128;
 
@@ -24,10 +24,13 @@ export class HexView {
     this.told = element('span', { class: 'quiet', role: 'status' });
     this.earlier = element('button', { type: 'button', onclick: () => this.#turn(-1) }, ['Earlier bytes']);
     this.later = element('button', { type: 'button', onclick: () => this.#turn(1) }, ['Later bytes']);
-    const goto = element('input', { type: 'text', size: '10', spellcheck: 'false', autocomplete: 'off', placeholder: 'e.g. 1A0' });
+    const goto =
+      element('input', { type: 'text', size: '10', spellcheck: 'false', autocomplete: 'off', placeholder: 'e.g. 1A0' });
     const label = element('label', {}, ['Go to byte (hexadecimal) ', goto]);
-    const form = element('form', { onsubmit: (event) => this.#go(event, goto.value) }, [label, element('button', {}, ['Go'])]);
-    this.root = element('div', {}, [this.frame, element('div', { class: 'buttons' }, [this.earlier, this.later, form, this.told])]);
+    const form =
+      element('form', { onsubmit: (event) => this.#go(event, goto.value) }, [label, element('button', {}, ['Go'])]);
+    this.root = element(
+      'div', {}, [this.frame, element('div', { class: 'buttons' }, [this.earlier, this.later, form, this.told])]);
     this.show(this.#mark?.start ?? 0);
   }
 
@@ -45,7 +48,9 @@ export class HexView {
   }
 
   #caption() {
-    return element('caption', { class: 'spoken' }, ['Each row: the offset of its first byte, the bytes in hexadecimal, and as text.']);
+    return element(
+      'caption', { class: 'spoken' },
+      ['Each row: the offset of its first byte, the bytes in hexadecimal, and as text.']);
   }
 
   #turn(step) {
@@ -58,8 +63,10 @@ export class HexView {
     const offset = spelledOffset(value);
     const isThere = offset !== null && offset < this.#bytes.length;
     if (isThere) this.show(offset);
-    this.told.textContent = isThere ? `Byte ${grouped(offset)} (0x${hexOffset(offset)}).`
-      : `No such byte: ${plain(value)}. The last is ${hexOffset(Math.max(0, this.#bytes.length - 1))}, in hexadecimal as the view shows it.`;
+    this.told.textContent = isThere ?
+      `Byte ${grouped(offset)} (0x${hexOffset(offset)}).` :
+      `No such byte: ${plain(value)}. The last is ${
+        hexOffset(Math.max(0, this.#bytes.length - 1))}, in hexadecimal as the view shows it.`;
   }
 
   #fill() {
@@ -70,8 +77,9 @@ export class HexView {
     this.earlier.disabled = this.#start === 0;
     this.later.disabled = end === this.#bytes.length;
     this.earlier.hidden = this.later.hidden = this.earlier.disabled && this.later.disabled;
-    this.told.textContent = this.#bytes.length === 0 ? 'There are no bytes.'
-      : `Bytes ${grouped(this.#start)} to ${grouped(end - 1)} of ${grouped(this.#bytes.length)}, offsets in hexadecimal.`;
+    this.told.textContent = this.#bytes.length === 0 ?
+      'There are no bytes.' :
+      `Bytes ${grouped(this.#start)} to ${grouped(end - 1)} of ${grouped(this.#bytes.length)}, offsets in hexadecimal.`;
   }
 
   #row(start, end) {
@@ -79,7 +87,9 @@ export class HexView {
     return element('tr', {}, [
       element('th', { scope: 'row' }, [hexOffset(start, Math.max(4, digits))]),
       element('td', {}, this.#runs(start, end, (byte) => `${hexOffset(byte, 2)} `)),
-      element('td', { class: 'letters' }, this.#runs(start, end, (byte) => (byte > 31 && byte < 127 ? String.fromCharCode(byte) : '·'))),
+      element(
+        'td', { class: 'letters' },
+        this.#runs(start, end, (byte) => (byte > 31 && byte < 127 ? String.fromCharCode(byte) : '·'))),
     ]);
   }
 

@@ -1,5 +1,5 @@
 // Where the layers and the features of a tile's JSON stand in its bytes, so that a part of it can be shown.
-import { text } from './text.js';
+import {text} from './text.js';
 
 const QUOTE = 0x22;
 const BACKSLASH = 0x5c;
@@ -55,7 +55,8 @@ export class JsonIndex {
   layers(from, end) {
     return this.#layers.slice(from, end).map(({ start, end: last, list, features }) => {
       const dots = features.length === 0 ? '[]' : '[…]';
-      const json = list === null ? this.#text(start, last) : `${this.#text(start, list[0])}${dots}${this.#text(list[1], last)}`;
+      const json =
+        list === null ? this.#text(start, last) : `${this.#text(start, list[0])}${dots}${this.#text(list[1], last)}`;
       return { json, features: features.length / 2 };
     });
   }

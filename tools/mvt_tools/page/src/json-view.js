@@ -1,8 +1,8 @@
 // The JSON of a tile: layers and features that unfold.
-import { element, folded } from './dom.js';
-import { foreignLine } from './foreign.js';
-import { coloured, laidOut } from './json.js';
-import { counted, grouped, size } from './text.js';
+import {element, folded} from './dom.js';
+import {foreignLine} from './foreign.js';
+import {coloured, laidOut} from './json.js';
+import {counted, grouped, size} from './text.js';
 
 const AT_ONCE = 50;
 const LINE = 110;
@@ -12,11 +12,12 @@ export function jsonView(client) {
   const box = element('div', { class: 'json' }, ['Making it …']);
   const load = async () => {
     const { layers, length } = await client.ask('json');
-    const told = element('p', { class: 'quiet' }, [`${size(length)}, with ${counted(layers, 'layer')}. “Save JSON” saves all.`]);
+    const told =
+      element('p', { class: 'quiet' }, [`${size(length)}, with ${counted(layers, 'layer')}. “Save JSON” saves all.`]);
     box.replaceChildren(told, inPieces(layers, 'layers', async (from, end) => {
-      const some = await client.ask('jsonLayers', { from, end });
-      return some.map((layer, index) => layerOf(client, layer, from + index));
-    }));
+                          const some = await client.ask('jsonLayers', { from, end });
+                          return some.map((layer, index) => layerOf(client, layer, from + index));
+                        }));
   };
   load().catch((error) => box.replaceChildren(`It can’t be made: ${error.message}`));
   return box;
@@ -24,19 +25,30 @@ export function jsonView(client) {
 
 function layerOf(client, { json, features }, index) {
   const title = element('span', {}, [`layer ${grouped(index)}: `, foreignLine(json, LINE)]);
-  return folded(title, () => element('div', { class: 'inside' }, [
-    shown(json, true),
-    features === 0 ? '' : inPieces(features, 'features', async (from, end) => {
-      const some = await client.ask('jsonFeatures', { layer: index, from, end });
-      return some.map((feature, place) => folded(
-        element('span', {}, [`feature ${grouped(from + place)}: `, foreignLine(feature.json, LINE)]), () => shown(feature.json, feature.isWhole)));
-    }),
-  ]));
+  return folded(
+    title, () => element('div', { class: 'inside' }, [
+             shown(json, true),
+             features === 0 ?
+               '' :
+               inPieces(
+                 features, 'features',
+                 async (from, end) => {
+                   const some = await client.ask('jsonFeatures', { layer: index, from, end });
+                   return some.map(
+                     (feature, place) => folded(
+                       element('span', {}, [`feature ${grouped(from + place)}: `, foreignLine(feature.json, LINE)]),
+                       () => shown(feature.json, feature.isWhole)));
+                 }),
+           ]));
 }
 
 function shown(json, isWhole) {
-  const cut = isWhole ? '' : element('p', { class: 'quiet' }, [`Its first ${counted(json.length, 'letter')}. “Save JSON” saves all.`]);
-  return element('div', {}, [cut, element('pre', { tabindex: '0' }, isWhole ? coloured(laidOut(json)) : [foreignLine(json, json.length)])]);
+  const cut = isWhole ?
+    '' :
+    element('p', { class: 'quiet' }, [`Its first ${counted(json.length, 'letter')}. “Save JSON” saves all.`]);
+  return element(
+    'div', {},
+    [cut, element('pre', { tabindex: '0' }, isWhole ? coloured(laidOut(json)) : [foreignLine(json, json.length)])]);
 }
 
 /** A list that grows by some at a time; `load(from, end)` promises its elements. */

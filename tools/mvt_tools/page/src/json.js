@@ -1,6 +1,6 @@
 // JSON laid out over lines, each token as it stands, so that no number loses digits; and in colours.
-import { element } from './dom.js';
-import { foreign } from './foreign.js';
+import {element} from './dom.js';
+import {foreign} from './foreign.js';
 
 const TOKENS = /"(?:[^"\\]|\\.)*"|[{}[\],:]|[^\s{}[\],:"]+/g;
 const WIDTH = 96;
@@ -50,7 +50,8 @@ export function coloured(laid) {
     const [whole, string, colon, number] = found;
     const kind = string === undefined ? (number === undefined ? 'word' : 'number') : colon === ':' ? 'key' : 'string';
     parts.push(laid.slice(from, found.index));
-    parts.push(element('span', { class: `json-${kind}` }, [string === undefined ? whole : foreign(string, 2000)]), colon ?? '');
+    parts.push(
+      element('span', { class: `json-${kind}` }, [string === undefined ? whole : foreign(string, 2000)]), colon ?? '');
     from = found.index + whole.length;
   }
   parts.push(laid.slice(from));

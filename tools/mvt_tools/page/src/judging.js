@@ -1,9 +1,9 @@
 // What the library says of bytes, in the form in which the worker hands it to the page.
-import { Gone, NO_MEMORY, OK } from './codec.js';
-import { sayLookalike } from './lookalikes.js';
-import { Survey } from './remarks.js';
-import { Rows } from './rows.js';
-import { REFUSED } from './spelling.js';
+import {Gone, NO_MEMORY, OK} from './codec.js';
+import {sayLookalike} from './lookalikes.js';
+import {Survey} from './remarks.js';
+import {Rows} from './rows.js';
+import {REFUSED} from './spelling.js';
 
 /**
  * Judges what was read, `{bytes, damaged}`: `{verdict, survey}`. The verdict's kind is
@@ -59,7 +59,10 @@ function surveyed(answer, read, name) {
 function told(answer, { damaged }, name, accept) {
   if (answer.status === OK) return accept(answer);
   if (answer.status === REFUSED) return { verdict: refusal(answer, damaged, name) };
-  return { verdict: unjudged(answer.status === NO_MEMORY ? 'there is no memory for it' : `the library answers ${answer.status}`) };
+  return {
+    verdict:
+      unjudged(answer.status === NO_MEMORY ? 'there is no memory for it' : `the library answers ${answer.status}`)
+  };
 }
 
 function acceptance(foreign, notes) {
@@ -72,7 +75,10 @@ function refusal({ fault, looks }, damaged, name) {
 }
 
 function sayDamaged(packing) {
-  return { name: `damaged ${packing}`, sentence: `This is a damaged file: it begins as ${packing} does, but it can’t be unpacked to its end.` };
+  return {
+    name: `damaged ${packing}`,
+    sentence: `This is a damaged file: it begins as ${packing} does, but it can’t be unpacked to its end.`
+  };
 }
 
 function unjudged(why) {

@@ -1,9 +1,9 @@
 // The layers of a tile: switched on, off or alone, in colours that may be chosen, each with a way to its features.
-import { element } from './dom.js';
-import { foreignLine, plain } from './foreign.js';
-import { paletteNow } from './palette.js';
-import { counted, grouped, shortSize } from './text.js';
-import { VirtualRows } from './virtual.js';
+import {element} from './dom.js';
+import {foreignLine, plain} from './foreign.js';
+import {paletteNow} from './palette.js';
+import {counted, grouped, shortSize} from './text.js';
+import {VirtualRows} from './virtual.js';
 
 export class LayerList {
   #client;
@@ -17,16 +17,22 @@ export class LayerList {
     this.#picture = picture;
     this.count = facts.layers;
     this.open = open;
-    const heads = ['Layer', 'Features', 'Size', ''].map((head) => element('th', { scope: 'col', class: (head === 'Features' || head === 'Size') && 'number' }, [head]));
+    const heads = ['Layer', 'Features', 'Size', ''].map(
+      (head) => element('th', { scope: 'col', class: (head === 'Features' || head === 'Size') && 'number' }, [head]));
     this.table = new VirtualRows({
-      label: 'Layers', heads, widths: [null, '5.5rem', '5.5rem', '8rem'], height: 9,
+      label: 'Layers',
+      heads,
+      widths: [null, '5.5rem', '5.5rem', '8rem'],
+      height: 9,
       rowsOf: (from, end) => client.ask('layers', { from, end }),
       cellsOf: (layer) => this.#cells(layer),
     });
     const all = (name, act) => element('button', { type: 'button', onclick: act }, [name]);
     this.root = element('section', { class: 'layers', 'aria-label': 'Layers' }, [
       this.table.root,
-      element('div', { class: 'buttons' }, this.count > 1 ? [all('All layers', () => this.#only(null)), all('No layer', () => this.#only(-1))] : []),
+      element(
+        'div', { class: 'buttons' },
+        this.count > 1 ? [all('All layers', () => this.#only(null)), all('No layer', () => this.#only(-1))] : []),
     ]);
     this.table.resize(this.count);
   }
@@ -49,7 +55,8 @@ export class LayerList {
   #cells(layer) {
     const name = layer.name === '' ? '(no name)' : layer.name;
     if (layer.version !== 2) {
-      const told = `Layer ${grouped(layer.index)}: version ${grouped(layer.version)}, not looked into, ${counted(layer.bytes, 'byte')}`;
+      const told = `Layer ${grouped(layer.index)}: version ${grouped(layer.version)}, not looked into, ${
+        counted(layer.bytes, 'byte')}`;
       return [element('th', { scope: 'row', colspan: 4, class: 'foreign', title: told }, [told])];
     }
     const { hidden } = this.#picture;
@@ -63,13 +70,26 @@ export class LayerList {
       this.#picture.redraw();
     });
     const isAlone = this.#alone === layer.index;
-    const alone = element('button', { type: 'button', 'aria-pressed': String(isAlone), 'aria-label': `Show only ${spoken}`, onclick: () => this.#only(isAlone ? null : layer.index) }, ['only']);
-    const open = element('button', { type: 'button', 'aria-label': `The features of ${spoken}`, onclick: () => this.open(layer) }, ['table']);
+    const alone = element(
+      'button', {
+        type: 'button',
+        'aria-pressed': String(isAlone),
+        'aria-label': `Show only ${spoken}`,
+        onclick: () => this.#only(isAlone ? null : layer.index)
+      },
+      ['only']);
+    const open = element(
+      'button', { type: 'button', 'aria-label': `The features of ${spoken}`, onclick: () => this.open(layer) },
+      ['table']);
     const { bytes, geometry } = this.#sizes[layer.index] ?? {};
-    const weight = bytes === undefined ? '' : `, ${counted(bytes, 'byte')}, of which ${grouped(geometry)} are geometries`;
-    const about = `${counted(layer.features.len, 'feature')}, extent ${grouped(layer.extent)}, ${counted(layer.keys.len, 'key')}, ${counted(layer.values.len, 'value')}${weight}`;
+    const weight =
+      bytes === undefined ? '' : `, ${counted(bytes, 'byte')}, of which ${grouped(geometry)} are geometries`;
+    const about = `${counted(layer.features.len, 'feature')}, extent ${grouped(layer.extent)}, ${
+      counted(layer.keys.len, 'key')}, ${counted(layer.values.len, 'value')}${weight}`;
     return [
-      element('th', { scope: 'row', title: `${plain(name, 500)}: ${about}` }, [element('label', {}, [box, ' ', this.#colour(layer, spoken), ' ', foreignLine(name)])]),
+      element(
+        'th', { scope: 'row', title: `${plain(name, 500)}: ${about}` },
+        [element('label', {}, [box, ' ', this.#colour(layer, spoken), ' ', foreignLine(name)])]),
       element('td', { class: 'number' }, [grouped(layer.features.len)]),
       element('td', { class: 'number' }, [bytes === undefined ? '' : shortSize(bytes)]),
       element('td', { class: 'acts' }, [this.count > 1 ? alone : '', ' ', open]),
@@ -79,7 +99,8 @@ export class LayerList {
   #colour({ index }, spoken) {
     const { layers } = paletteNow();
     const value = this.#picture.chosenColours[index] ?? layers[index % layers.length];
-    const input = element('input', { type: 'color', value, 'aria-label': `The colour of ${spoken}`, title: 'Choose a colour' });
+    const input =
+      element('input', { type: 'color', value, 'aria-label': `The colour of ${spoken}`, title: 'Choose a colour' });
     input.addEventListener('input', () => {
       this.#picture.chosenColours[index] = input.value;
       this.#picture.redraw();

@@ -1,11 +1,11 @@
 // The list of several tiles: how many of which cause, and a row for each, which can be sorted and filtered.
-import { csvOf } from './csv.js';
-import { element, save } from './dom.js';
-import { foreignLine, plain } from './foreign.js';
-import { eachInSteps, sortedInSteps, withOthers } from './steps.js';
-import { counted, grouped, size } from './text.js';
-import { groupOf, lineOf, sayGroup } from './verdict.js';
-import { SIZES, VirtualRows } from './virtual.js';
+import {csvOf} from './csv.js';
+import {element, save} from './dom.js';
+import {foreignLine, plain} from './foreign.js';
+import {eachInSteps, sortedInSteps, withOthers} from './steps.js';
+import {counted, grouped, size} from './text.js';
+import {groupOf, lineOf, sayGroup} from './verdict.js';
+import {SIZES, VirtualRows} from './virtual.js';
 
 const SAID_EVERY = 300;
 /** So many lines are saved as one piece. */
@@ -32,17 +32,25 @@ export class TileList {
     this.turned = turned;
     this.title = element('h2', { tabindex: '-1' });
     this.chips = element('div', { class: 'chips', role: 'group', 'aria-label': 'Show only those of one kind' });
-    const filter = element('input', { type: 'search', 'aria-label': 'Filter by text', placeholder: 'filter by name or verdict' });
+    const filter =
+      element('input', { type: 'search', 'aria-label': 'Filter by text', placeholder: 'filter by name or verdict' });
     filter.addEventListener('input', () => this.#filterBy({ text: filter.value.toLowerCase() }));
     this.told = element('span', { class: 'quiet', role: 'status' });
     const saving = element('button', { type: 'button', onclick: () => this.#save() }, ['Save as CSV']);
     this.table = new VirtualRows({
-      label: 'Tiles', heads: this.#heads(), widths: ['38%', SIZES, null], classOf: (row) => `${row.verdict.kind}${row.index === this.#current ? ' current' : ''}`,
+      label: 'Tiles',
+      heads: this.#heads(),
+      widths: ['38%', SIZES, null],
+      classOf: (row) => `${row.verdict.kind}${row.index === this.#current ? ' current' : ''}`,
       rowsOf: (from, end) => this.#shown.slice(from, end).map((index) => this.#rows[index]),
-      cellsOf: (row) => this.#cells(row), height: 13,
+      cellsOf: (row) => this.#cells(row),
+      height: 13,
     });
     this.root = element('div', { class: 'list' }, [
-      this.title, this.chips, element('div', { class: 'buttons' }, [filter, saving, this.told]), this.table.root,
+      this.title,
+      this.chips,
+      element('div', { class: 'buttons' }, [filter, saving, this.told]),
+      this.table.root,
     ]);
   }
 
@@ -92,11 +100,19 @@ export class TileList {
   }
 
   #sayGroups() {
-    const groups = [...this.#groups].map(([group, count]) => ({ group, count, ...sayGroup(group) })).sort((a, b) => a.rank - b.rank || b.count - a.count);
+    const groups = [...this.#groups]
+                     .map(([group, count]) => ({ group, count, ...sayGroup(group) }))
+                     .sort((a, b) => a.rank - b.rank || b.count - a.count);
     const held = this.chips.contains(document.activeElement) ? document.activeElement.dataset.group : null;
     this.chips.replaceChildren(...groups.map(({ group, count, kind, words }) => {
       const isOn = this.#filter.group === group;
-      const chip = { type: 'button', class: `chip ${kind}`, 'data-group': group, 'aria-pressed': String(isOn), onclick: () => this.#filterBy({ group: isOn ? null : group }) };
+      const chip = {
+        type: 'button',
+        class: `chip ${kind}`,
+        'data-group': group,
+        'aria-pressed': String(isOn),
+        onclick: () => this.#filterBy({ group: isOn ? null : group })
+      };
       return element('button', chip, [element('b', {}, [grouped(count)]), ` ${words}`]);
     }));
     if (held !== null) [...this.chips.children].find((chip) => chip.dataset.group === held)?.focus();
@@ -123,8 +139,8 @@ export class TileList {
   // ---- sorting
 
   #heads() {
-    return [['name', 'Tile'], ['size', 'Size'], ['line', 'Verdict']].map(([by, title]) =>
-      element('th', { scope: 'col', class: by === 'size' && 'size', 'data-by': by }, [
+    return [['name', 'Tile'], ['size', 'Size'], ['line', 'Verdict']].map(
+      ([by, title]) => element('th', { scope: 'col', class: by === 'size' && 'size', 'data-by': by }, [
         element('button', { type: 'button', class: 'link sort', onclick: () => this.#sortBy(by) }, [title]),
       ]));
   }
@@ -133,7 +149,8 @@ export class TileList {
     const { by: last, isDown } = this.#order;
     this.#order = by !== last ? { by, isDown: false } : isDown ? { by: 'index', isDown: false } : { by, isDown: true };
     for (const head of this.table.table.tHead.rows[0].cells) {
-      if (head.dataset.by === this.#order.by) head.setAttribute('aria-sort', this.#order.isDown ? 'descending' : 'ascending');
+      if (head.dataset.by === this.#order.by)
+        head.setAttribute('aria-sort', this.#order.isDown ? 'descending' : 'ascending');
       else head.removeAttribute('aria-sort');
     }
     this.#arrange(false);
@@ -148,7 +165,8 @@ export class TileList {
     this.#isArranging = true;
     this.#fresh = [];
     const wanted = [];
-    for (const row of this.#rows) if (this.#isShown(row)) wanted.push(row.index);
+    for (const row of this.#rows)
+      if (this.#isShown(row)) wanted.push(row.index);
     const shown = this.#order.by === 'index' ? wanted : await sortedInSteps(wanted, this.#comparison(), isNow);
     if (!isNow()) return;
     this.#shown = shown;
@@ -161,7 +179,8 @@ export class TileList {
   /** Takes in the rows that came since. */
   #takeFresh() {
     if (this.#isArranging) return;
-    if (this.#order.by === 'index') for (const index of this.#fresh) this.#shown.push(index);
+    if (this.#order.by === 'index')
+      for (const index of this.#fresh) this.#shown.push(index);
     else if (this.#fresh.length > 0) this.#shown = withOthers(this.#shown, this.#fresh, this.#comparison());
     this.#fresh = [];
   }
@@ -169,14 +188,26 @@ export class TileList {
   #comparison() {
     const { by, isDown } = this.#order;
     const rows = this.#rows;
-    const compare = by === 'name' ? byName(rows) : (a, b) => (rows[a][by] < rows[b][by] ? -1 : rows[a][by] > rows[b][by] ? 1 : a - b);
+    const compare = by === 'name' ? byName(rows) :
+                                    (a, b) =>
+                                      (rows[a][by] < rows[b][by]   ? -1 :
+                                         rows[a][by] > rows[b][by] ? 1 :
+                                                                     a - b);
     return isDown ? (a, b) => compare(b, a) : compare;
   }
 
   // ---- rows
 
   #cells({ index, name, size: bytes, line, note }) {
-    const open = element('button', { type: 'button', class: 'link', title: plain(name, 500), 'aria-current': index === this.#current && 'true', onclick: () => this.open(index) }, [foreignLine(name, 200)]);
+    const open = element(
+      'button', {
+        type: 'button',
+        class: 'link',
+        title: plain(name, 500),
+        'aria-current': index === this.#current && 'true',
+        onclick: () => this.open(index)
+      },
+      [foreignLine(name, 200)]);
     return [
       element('th', { scope: 'row' }, [open]),
       element('td', { class: 'size' }, [size(bytes)]),

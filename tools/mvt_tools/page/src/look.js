@@ -1,10 +1,10 @@
 // The picture with all that stands beside it: layers, what is at a place, a feature's attributes, and the tables.
-import { element } from './dom.js';
-import { FeatureView } from './features-view.js';
-import { foreign } from './foreign.js';
-import { LayerList } from './layers.js';
-import { Picture, tipOf } from './picture.js';
-import { counted, grouped } from './text.js';
+import {element} from './dom.js';
+import {FeatureView} from './features-view.js';
+import {foreign} from './foreign.js';
+import {LayerList} from './layers.js';
+import {Picture, tipOf} from './picture.js';
+import {counted, grouped} from './text.js';
 
 /** So many features of a place are listed. */
 const LISTED = 20;
@@ -21,12 +21,16 @@ export class Look {
     this.layers = new LayerList(client, facts, this.picture, (layer) => this.openTable(layer));
     this.here = element('div', { class: 'here' });
     this.told = element('div', { class: 'feature', 'aria-live': 'polite' }, [
-      element('p', { class: 'quiet' }, ['Choose a place in the picture, or a row of a layer’s table, to see a feature’s attributes.']),
+      element(
+        'p', { class: 'quiet' },
+        ['Choose a place in the picture, or a row of a layer’s table, to see a feature’s attributes.']),
     ]);
     this.tables = element('div');
     this.layers.root.querySelector('.buttons').append(saveShown(this.picture));
     this.root = element('div', {}, [
-      element('div', { class: 'picture' }, [this.picture.root, element('div', { class: 'beside' }, [this.layers.root, this.here, this.told])]),
+      element(
+        'div', { class: 'picture' },
+        [this.picture.root, element('div', { class: 'beside' }, [this.layers.root, this.here, this.told])]),
       this.tables,
     ]);
   }
@@ -34,9 +38,18 @@ export class Look {
   /** Lists what is at a place, and chooses the first. */
   #here({ count, features }) {
     const items = features.slice(0, LISTED).map((feature) => element('li', {}, [
-      element('button', { type: 'button', class: 'link', 'data-place': feature.place, onclick: () => this.choose(feature.place, false) }, tipOf(feature)),
-    ]));
-    const title = count === 0 ? 'Nothing is here.' : `Here ${count === 1 ? 'is' : 'are'} ${counted(count, 'feature')}${count > LISTED ? `, of which ${LISTED} are listed` : ''}:`;
+                                                  element(
+                                                    'button', {
+                                                      type: 'button',
+                                                      class: 'link',
+                                                      'data-place': feature.place,
+                                                      onclick: () => this.choose(feature.place, false)
+                                                    },
+                                                    tipOf(feature)),
+                                                ]));
+    const title = count === 0 ? 'Nothing is here.' :
+                                `Here ${count === 1 ? 'is' : 'are'} ${counted(count, 'feature')}${
+                                  count > LISTED ? `, of which ${LISTED} are listed` : ''}:`;
     this.here.replaceChildren(element('p', { class: 'quiet' }, [title]), element('ol', {}, items));
     if (count > 0) this.choose(features[0].place, false);
   }
@@ -51,10 +64,11 @@ export class Look {
       else button.removeAttribute('aria-current');
     }
     this.#view?.mark(place);
-    this.told.replaceChildren(...sayFeature(feature), element('div', { class: 'buttons' }, [
-      element('button', { type: 'button', onclick: () => this.picture.goTo(feature.box) }, ['Zoom to it']),
-      element('button', { type: 'button', onclick: () => this.#toTable(feature) }, ['Show in the table']),
-    ]));
+    this.told.replaceChildren(
+      ...sayFeature(feature), element('div', { class: 'buttons' }, [
+        element('button', { type: 'button', onclick: () => this.picture.goTo(feature.box) }, ['Zoom to it']),
+        element('button', { type: 'button', onclick: () => this.#toTable(feature) }, ['Show in the table']),
+      ]));
     return feature;
   }
 
@@ -90,8 +104,9 @@ export class Look {
 
 function sayFeature({ layerName, index, id, shape, parts, points, integers, attributes }) {
   const name = layerName === '' ? '(no name)' : layerName;
-  const form = shape === 'unknown' ? `unknown geometry of ${counted(integers, 'integer')}`
-    : `${shape}, ${counted(parts, shape === 'polygons' ? 'ring' : 'part')}, ${counted(points, 'position')}`;
+  const form = shape === 'unknown' ?
+    `unknown geometry of ${counted(integers, 'integer')}` :
+    `${shape}, ${counted(parts, shape === 'polygons' ? 'ring' : 'part')}, ${counted(points, 'position')}`;
   return [
     element('h4', {}, [foreign(name), `, feature ${grouped(index)}`]),
     element('p', { class: 'quiet' }, [`${id === null ? 'no id' : `id ${id}`}; ${form}`]),
@@ -109,7 +124,9 @@ function tableOf(attributes) {
     more.hidden = body.children.length === attributes.length;
   };
   add();
-  return element('div', {}, [element('table', { class: 'attributes' }, [element('caption', { class: 'spoken' }, ['Attributes']), body]), more]);
+  return element(
+    'div', {},
+    [element('table', { class: 'attributes' }, [element('caption', { class: 'spoken' }, ['Attributes']), body]), more]);
 }
 
 function rowOf({ key, kind, text, bits }) {

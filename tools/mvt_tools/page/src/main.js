@@ -1,8 +1,8 @@
 // The page: takes tiles in, has the worker judge them, and shows what it says.
-import { Codec } from './codec.js';
-import { Page } from './page.js';
-import { spelledBytes } from './spelled.js';
-import { eachInSteps } from './steps.js';
+import {Codec} from './codec.js';
+import {Page} from './page.js';
+import {spelledBytes} from './spelled.js';
+import {eachInSteps} from './steps.js';
 
 const data = JSON.parse(document.getElementById('data').textContent);
 const at = (id) => document.getElementById(id);
@@ -37,7 +37,7 @@ function listen(page) {
   for (const id of ['files', 'folder']) {
     at(id).addEventListener('change', async ({ target }) => {
       const inputs = await inputsOf(target.files);
-      target.value = '';    // so that the same file can be chosen again
+      target.value = '';  // so that the same file can be chosen again
       page.open(inputs);
     });
   }
@@ -49,14 +49,16 @@ function listen(page) {
   document.addEventListener('drop', async (event) => {
     event.preventDefault();
     document.body.classList.remove('over');
-    at('undropped').textContent = hasFolder(event.dataTransfer) ? 'A folder can’t be dropped. “Choose a folder” reads all its files.' : '';
+    at('undropped').textContent =
+      hasFolder(event.dataTransfer) ? 'A folder can’t be dropped. “Choose a folder” reads all its files.' : '';
     if (at('undropped').textContent === '') page.open(await inputsOf(event.dataTransfer.files));
   });
   document.addEventListener('keydown', (event) => page.press(event));
   at('paste').addEventListener('submit', (event) => {
     event.preventDefault();
     const spelled = spelledBytes(at('pasted').value);
-    at('unread').textContent = spelled ? '' : 'This is neither hexadecimal (pairs of digits), nor base64, nor numbers up to 255.';
+    at('unread').textContent =
+      spelled ? '' : 'This is neither hexadecimal (pairs of digits), nor base64, nor numbers up to 255.';
     if (spelled) page.open([bytesInput('pasted bytes', spelled.bytes, `The text was read as ${spelled.as}.`)]);
   });
   for (const [name, tile] of Object.entries(data.examples)) {
@@ -68,7 +70,7 @@ async function start() {
   const address = new URL('.', location.href).href;
   const codec = new Codec(address);
   const page = new Page(workerMaker(data.worker), codec, address, data);
-  globalThis.mvt = { codec };    // for the console, and for tests
+  globalThis.mvt = { codec };  // for the console, and for tests
   listen(page);
   at('start').hidden = false;
   try {

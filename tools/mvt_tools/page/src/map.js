@@ -1,6 +1,6 @@
 // A small map of a zoom of a store: where its tiles lie, and which of them are broken.
-import { element } from './dom.js';
-import { counted, grouped } from './text.js';
+import {element} from './dom.js';
+import {counted, grouped} from './text.js';
 
 /** So many cells are on a side at most; where there are more tiles, a cell is a square of several. */
 const CELLS = 64;
@@ -24,9 +24,11 @@ export class StoreMap {
     this.#codec = codec;
     this.#path = path;
     this.#hands = hands;
-    this.zoom = element('input', { type: 'number', min: '0', max: '30', value: '0', required: true, 'aria-label': 'Zoom of the map' });
+    this.zoom = element(
+      'input', { type: 'number', min: '0', max: '30', value: '0', required: true, 'aria-label': 'Zoom of the map' });
     this.ending = element('button', { type: 'button', hidden: true, onclick: () => this.#stopped() }, ['Stop']);
-    const form = element('form', {}, [element('label', {}, ['Zoom ', this.zoom]), element('button', {}, ['Draw']), this.ending]);
+    const form =
+      element('form', {}, [element('label', {}, ['Zoom ', this.zoom]), element('button', {}, ['Draw']), this.ending]);
     form.addEventListener('submit', (event) => {
       event.preventDefault();
       this.draw(Number(this.zoom.value));
@@ -34,7 +36,8 @@ export class StoreMap {
     this.canvas = element('canvas', { width: PIXELS, height: PIXELS, role: 'img', hidden: true });
     this.canvas.addEventListener('click', (event) => this.#choose(event));
     this.told = element('p', { class: 'quiet', role: 'status' });
-    this.root = element('div', { class: 'map' }, [element('div', { class: 'buttons' }, [form]), this.canvas, this.told]);
+    this.root =
+      element('div', { class: 'map' }, [element('div', { class: 'buttons' }, [form]), this.canvas, this.told]);
   }
 
   /** Ends what is asked for. */
@@ -113,7 +116,10 @@ export class StoreMap {
       context.fillStyle = colour(isBroken ? '--bad' : '--edge');
       const grown = isBroken ? Math.max(0, LEAST_BROKEN - side) / 2 : 0;
       for (const { x, y, tile } of cells) {
-        if (tile[2] === isBroken) context.fillRect(x * side - grown, y * side - grown, side + 2 * grown - (side > 8 ? 1 : 0), side + 2 * grown - (side > 8 ? 1 : 0));
+        if (tile[2] === isBroken)
+          context.fillRect(
+            x * side - grown, y * side - grown, side + 2 * grown - (side > 8 ? 1 : 0),
+            side + 2 * grown - (side > 8 ? 1 : 0));
       }
     }
   }
@@ -122,8 +128,10 @@ export class StoreMap {
   #choose({ offsetX, offsetY }) {
     const scale = PIXELS / this.canvas.clientWidth;
     const { cells, side } = this.#cells();
-    const far = ({ x, y }) => Math.max(Math.abs((x + 0.5) * side - offsetX * scale), Math.abs((y + 0.5) * side - offsetY * scale)) - side / 2;
-    const near = cells.filter((cell) => far(cell) <= (cell.tile[2] ? LEAST_BROKEN : 0)).sort((a, b) => b.tile[2] - a.tile[2] || far(a) - far(b));
+    const far = ({ x, y }) =>
+      Math.max(Math.abs((x + 0.5) * side - offsetX * scale), Math.abs((y + 0.5) * side - offsetY * scale)) - side / 2;
+    const near = cells.filter((cell) => far(cell) <= (cell.tile[2] ? LEAST_BROKEN : 0))
+                   .sort((a, b) => b.tile[2] - a.tile[2] || far(a) - far(b));
     if (near.length > 0) this.#hands.open({ z: this.#z, x: near[0].tile[0], y: near[0].tile[1] });
   }
 }

@@ -1,8 +1,8 @@
 // What a tile is when it is mended: what was changed, and features before and after.
-import { CAUSE, STATUS } from './layout.js';
-import { element, folded, save } from './dom.js';
-import { shapeOf } from './shape.js';
-import { counted, grouped } from './text.js';
+import {CAUSE, STATUS} from './layout.js';
+import {element, folded, save} from './dom.js';
+import {shapeOf} from './shape.js';
+import {counted, grouped} from './text.js';
 
 const CURABLE = [CAUSE.ZeroSegment, CAUSE.FirstRing];
 const UNMENDED = {
@@ -18,7 +18,7 @@ const CHANGED = {
 };
 
 /** Whether a tile may be mended that has this fault. */
-export function isCurable({ cause }) {
+export function isCurable({cause}) {
   return CURABLE.includes(cause);
 }
 
@@ -31,12 +31,16 @@ export function mendingOf(stem, mend, view, isAsked) {
   const place = element('div');
   const button = element('button', { type: 'button' }, ['Mend']);
   let asked = isAsked ? mend() : null;
-  asked?.then(({ status }) => {
-    if (button.disabled) return;
-    if (status === STATUS.OK) said.replaceChildren(element('code', {}, ['mvt mend']), ' mends this.');
-    else said.textContent = whyNot(status);
-    button.disabled = status === STATUS.REFUSED;
-  }, () => { asked = null; });
+  asked?.then(
+    ({ status }) => {
+      if (button.disabled) return;
+      if (status === STATUS.OK) said.replaceChildren(element('code', {}, ['mvt mend']), ' mends this.');
+      else said.textContent = whyNot(status);
+      button.disabled = status === STATUS.REFUSED;
+    },
+    () => {
+      asked = null;
+    });
   button.onclick = async () => {
     button.disabled = true;
     said.textContent = 'Mending …';
@@ -46,7 +50,8 @@ export function mendingOf(stem, mend, view, isAsked) {
       if (status === STATUS.OK) {
         const mended = await view(bytes);
         said.textContent = '';
-        place.replaceChildren(showMended(told, () => save(`${stem}.mended.mvt`, 'application/vnd.mapbox-vector-tile', bytes)), mended.root);
+        place.replaceChildren(
+          showMended(told, () => save(`${stem}.mended.mvt`, 'application/vnd.mapbox-vector-tile', bytes)), mended.root);
         await mended.fill();
         return;
       }
@@ -58,7 +63,9 @@ export function mendingOf(stem, mend, view, isAsked) {
     }
     button.disabled = false;
   };
-  return element('section', { class: 'mending', 'aria-label': 'Mended' }, [element('div', { class: 'buttons' }, [button, said]), place]);
+  return element(
+    'section', { class: 'mending', 'aria-label': 'Mended' },
+    [element('div', { class: 'buttons' }, [button, said]), place]);
 }
 
 function whyNot(status) {
@@ -70,11 +77,19 @@ function showMended({ kinds, lines, features }, saved) {
   const rest = count > lines.length ? [`… and ${grouped(count - lines.length)} more`] : [];
   return element('div', {}, [
     element('h3', {}, [`Mended: ${counted(count, 'change')}`]),
-    element('ul', {}, kinds.map((each) => element('li', {}, [`${grouped(each.count)} × `, element('b', {}, [each.kind]), `: ${CHANGED[each.kind]}`]))),
+    element(
+      'ul', {},
+      kinds.map(
+        (each) =>
+          element('li', {}, [`${grouped(each.count)} × `, element('b', {}, [each.kind]), `: ${CHANGED[each.kind]}`]))),
     folded('Changes', () => element('pre', {}, [[...lines, ...rest].join('\n')])),
-    features.length === 0 ? '' : element('p', { class: 'quiet' }, ['Polygons are filled as MapLibre fills them: by the directions of their rings.']),
+    features.length === 0 ?
+      '' :
+      element(
+        'p', { class: 'quiet' }, ['Polygons are filled as MapLibre fills them: by the directions of their rings.']),
     ...features.map(showFeature),
-    element('div', { class: 'buttons' }, [element('button', { type: 'button', onclick: saved }, ['Save the mended tile'])]),
+    element(
+      'div', { class: 'buttons' }, [element('button', { type: 'button', onclick: saved }, ['Save the mended tile'])]),
   ]);
 }
 

@@ -4,7 +4,8 @@ const ENDINGS = /(\.(mvt|pbf|gz|gzip|zz|br|bin|mlt))+$/i;
 
 /** Where a tile's file name says that it is: `tiles/12/2120/1451.pbf` is 12/2120/1451; null for others. */
 export function placeIn(name) {
-  const [, z, x, y] = /(?:^|\/)(\d{1,2})[/-](\d{1,10})[/-](\d{1,10})$/.exec(name.replace(ENDINGS, ''))?.map(Number) ?? [];
+  const [, z, x, y] =
+    /(?:^|\/)(\d{1,2})[/-](\d{1,10})[/-](\d{1,10})$/.exec(name.replace(ENDINGS, ''))?.map(Number) ?? [];
   return z <= 30 && Math.max(x, y) < 2 ** z ? { z, x, y } : null;
 }
 

@@ -1,5 +1,5 @@
 // Which features are near a point of the picture.
-import { POINTS, POLYGONS, UNKNOWN } from './rows.js';
+import {POINTS, POLYGONS, UNKNOWN} from './rows.js';
 
 /** So many are told; their number is told in any case. */
 const TOLD = 100;
@@ -81,7 +81,8 @@ export class Finder {
 
 function toPoints(points, from, behind, { x, y }) {
   let least = Infinity;
-  for (let at = 2 * from; at < 2 * behind; at += 2) least = Math.min(least, Math.hypot(points[at] - x, points[at + 1] - y));
+  for (let at = 2 * from; at < 2 * behind; at += 2)
+    least = Math.min(least, Math.hypot(points[at] - x, points[at + 1] - y));
   return least;
 }
 
@@ -111,7 +112,8 @@ function windingOf(points, from, behind, { x, y }) {
   for (let at = 2 * from; at < 2 * behind; at += 2) {
     const isUp = points[last + 1] <= y;
     if (isUp !== points[at + 1] <= y) {
-      const side = (points[at] - points[last]) * (y - points[last + 1]) - (x - points[last]) * (points[at + 1] - points[last + 1]);
+      const side =
+        (points[at] - points[last]) * (y - points[last + 1]) - (x - points[last]) * (points[at + 1] - points[last + 1]);
       if (isUp && side > 0) turns += 1;
       if (!isUp && side < 0) turns -= 1;
     }

@@ -1,7 +1,7 @@
 // The notes of the report, and the findings, by kind; each leads to its feature.
-import { element, folded } from './dom.js';
-import { counted, grouped } from './text.js';
-import { VirtualRows } from './virtual.js';
+import {element, folded} from './dom.js';
+import {counted, grouped} from './text.js';
+import {VirtualRows} from './virtual.js';
 
 /** So many kinds' lines are open at first, where there are few. */
 const FEW = 6;
@@ -21,9 +21,15 @@ export function showFindings(client, kinds, meanings, jump) {
 function remarksOf(list, kinds) {
   const count = kinds.reduce((sum, each) => sum + each.count, 0);
   const { label, meanings, words } = list;
-  const groups = kinds.map((each) => folded(
-    element('span', {}, [`${grouped(each.count)} × `, element('b', {}, [each.kind]), each.kind in meanings ? `: ${meanings[each.kind]}` : '']),
-    () => remarkTable(list, each), count <= FEW));
+  const groups = kinds.map(
+    (each) => folded(
+      element(
+        'span', {},
+        [
+          `${grouped(each.count)} × `, element('b', {}, [each.kind]),
+          each.kind in meanings ? `: ${meanings[each.kind]}` : ''
+        ]),
+      () => remarkTable(list, each), count <= FEW));
   return element('section', { class: 'report', 'aria-label': label }, [element('p', {}, [words(count)]), ...groups]);
 }
 

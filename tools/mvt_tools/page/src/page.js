@@ -1,13 +1,13 @@
 // What the page has open: one tile, or a list and one tile of it. Each has a worker of its own. Whatever an older worker
 // was asked is never answered, so nothing that is old can show itself.
-import { Client } from './client.js';
-import { element } from './dom.js';
-import { foreign, plain } from './foreign.js';
-import { TileList } from './list.js';
-import { StoreList } from './store.js';
-import { WAYS, beyondOf, placeOf, spelledPlace, wayFrom, wayOfKey } from './stored.js';
-import { counted } from './text.js';
-import { TileView } from './tile.js';
+import {Client} from './client.js';
+import {element} from './dom.js';
+import {foreign, plain} from './foreign.js';
+import {TileList} from './list.js';
+import {StoreList} from './store.js';
+import {WAYS, beyondOf, placeOf, spelledPlace, wayFrom, wayOfKey} from './stored.js';
+import {counted} from './text.js';
+import {TileView} from './tile.js';
 
 /** So many files are handed to the worker at once: each handing over takes the page some time. */
 const HANDED = 100;
@@ -39,7 +39,8 @@ export class Page {
 
   /** Tells that the server has ended. */
   sayGone() {
-    part('gone').textContent = 'The command mvt-page has ended, so nothing more can be judged. What is shown stays. Start it again, and it says where the page is then.';
+    part('gone').textContent =
+      'The command mvt-page has ended, so nothing more can be judged. What is shown stays. Start it again, and it says where the page is then.';
   }
 
   /** Whether the server is there: if it has ended, that is told, and what is shown stays. */
@@ -69,7 +70,8 @@ export class Page {
 
   /** The number of the store that a file is which the command was started with, by its name and size; else -1. */
   #storeOf(source) {
-    return (this.#given ?? []).findIndex(({ name, size }) => source instanceof File && source.name === name && source.size === size);
+    return (this.#given ?? [])
+      .findIndex(({ name, size }) => source instanceof File && source.name === name && source.size === size);
   }
 
   /** Shows a tile of the list. */
@@ -121,7 +123,8 @@ export class Page {
       if (view.told !== told) this.#say(view.told);
     } catch (error) {
       if (error.name !== 'Gone') console.error(error);
-      part('tile').append(element('p', { class: 'verdict unjudged' }, [foreign(name), ` can’t be shown: ${error.message}`]));
+      part('tile').append(
+        element('p', { class: 'verdict unjudged' }, [foreign(name), ` can’t be shown: ${error.message}`]));
     }
     this.#done('tile');
   }
@@ -149,7 +152,8 @@ export class Page {
   #ways(index) {
     if (this.#list === null) return [];
     const list = this.#list;
-    const to = (title, step) => element('button', { type: 'button', onclick: () => this.#choose(list.beside(index, step)) }, [title]);
+    const to = (title, step) =>
+      element('button', { type: 'button', onclick: () => this.#choose(list.beside(index, step)) }, [title]);
     const back = element('button', { type: 'button', onclick: () => this.#back(index) }, ['Back to the list']);
     const [previous, next] = [to('Previous', -1), to('Next', 1)];
     this.#waysNow = () => {
@@ -205,8 +209,11 @@ export class Page {
     const inputs = files.map((name, index) => ({ name, source: `files/${index}` }));
     const button = (words, act) => element('button', { type: 'button', onclick: act }, words);
     const buttons = stores.map(({ name }, number) => button([foreign(name)], () => this.openStore(number)));
-    if (inputs.length > 0) buttons.push(button(inputs.length === 1 ? [foreign(inputs[0].name)] : [counted(inputs.length, 'file')], () => this.open(inputs)));
-    if (stores.length > 0 || inputs.length > 1) part('given').replaceChildren(element('div', { class: 'buttons' }, ['Given to mvt-page: ', ...buttons]));
+    if (inputs.length > 0)
+      buttons.push(button(
+        inputs.length === 1 ? [foreign(inputs[0].name)] : [counted(inputs.length, 'file')], () => this.open(inputs)));
+    if (stores.length > 0 || inputs.length > 1)
+      part('given').replaceChildren(element('div', { class: 'buttons' }, ['Given to mvt-page: ', ...buttons]));
     if (first !== null) await this.openStore(first.store, first.place);
     else if (stores.length > 0) await this.openStore(0);
     else await this.open(inputs);
@@ -243,7 +250,10 @@ export class Page {
       this.#problem(isThere ? '' : `The store has no tile ${plain(tile.name)}.`);
       const beyond = beyondOf(tile.place);
       const note = beyond && `The store has it, but ${beyond}.`;
-      if (isThere) await this.#showInput({ name: tile.name, source: null, note, place: beyond ? null : tile.place }, () => this.#waysRound(tile.place), () => store.choose(tile), client);
+      if (isThere)
+        await this.#showInput(
+          { name: tile.name, source: null, note, place: beyond ? null : tile.place }, () => this.#waysRound(tile.place),
+          () => store.choose(tile), client);
       else client.stop();
     } catch (error) {
       this.#comes();
@@ -270,16 +280,22 @@ export class Page {
 
   /** Ways to the list, to the next broken tile, and to those round a tile. */
   #waysRound(place) {
-    const act = (words, label, to) => element('button', { type: 'button', 'aria-label': label, title: label, onclick: to }, [words]);
+    const act = (words, label, to) =>
+      element('button', { type: 'button', 'aria-label': label, title: label, onclick: to }, [words]);
     const back = act('Back to the list', 'Back to the list', () => this.#backToStore());
     const next = act('Next broken', 'The next broken tile (N)', () => this.#store.searchOn());
     this.#place = place;
     const round = place === null ? [] : WAYS.map((way) => [way, wayFrom(place, way)]).map(([way, to]) => {
-      const button = act(way.sign, to === null ? way.name : `${way.name}, ${spelledPlace(to)} (${way.key})`, () => this.#openTile(this.#store.tileAt(to)));
+      const button = act(
+        way.sign, to === null ? way.name : `${way.name}, ${spelledPlace(to)} (${way.key})`,
+        () => this.#openTile(this.#store.tileAt(to)));
       button.disabled = to === null;
       return button;
     });
-    return [element('div', { class: 'buttons ways' }, [back, next]), element('div', { class: 'buttons ways', role: 'group', 'aria-label': 'Tiles round it' }, round)];
+    return [
+      element('div', { class: 'buttons ways' }, [back, next]),
+      element('div', { class: 'buttons ways', role: 'group', 'aria-label': 'Tiles round it' }, round)
+    ];
   }
 
   #backToStore() {
@@ -289,7 +305,10 @@ export class Page {
 
   /** Goes where a key leads from the tile of a store that is open. */
   press(event) {
-    if (this.#store === null || event.defaultPrevented || event.target.closest('input, select, textarea, .paper, .rows, .hex, pre')) return;
+    if (
+      this.#store === null || event.defaultPrevented ||
+      event.target.closest('input, select, textarea, .paper, .rows, .hex, pre'))
+      return;
     const way = wayOfKey(event);
     const to = way && this.#place && wayFrom(this.#place, way);
     if (to) this.#openTile(this.#store.tileAt(to));

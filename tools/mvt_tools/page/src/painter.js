@@ -1,5 +1,5 @@
 // Makes the frames of a tile's picture: in pieces, so that a newer frame, or a question, needn't wait for the last.
-import { drawFeatures, drawing } from './draw.js';
+import {drawFeatures, drawing} from './draw.js';
 
 /** So often, in milliseconds, a frame that isn't done yet is shown. */
 const SHOWN_EVERY = 250;
@@ -44,14 +44,18 @@ export class Painter {
       await tick();
       if (turn !== this.#turn) return { frame: canvas.transferToImageBitmap(), behind, isDone: false };
     }
-    return { frame: edged(canvas, context, plan).transferToImageBitmap(), behind: this.#rows.featureCount, isDone: true };
+    return {
+      frame: edged(canvas, context, plan).transferToImageBitmap(),
+      behind: this.#rows.featureCount,
+      isDone: true
+    };
   }
 
   /** A frame with some features alone, in the colour of ink with an edge of paper. */
   mark(plan, places) {
     const { canvas, context } = paperOf(plan);
-    drawFeatures(context, this.#rows, { ...plan, colour: plan.paper, scale: 4 * plan.scale }, places);
-    drawFeatures(context, this.#rows, { ...plan, colour: plan.ink, scale: 2 * plan.scale }, places);
+    drawFeatures(context, this.#rows, {...plan, colour: plan.paper, scale: 4 * plan.scale }, places);
+    drawFeatures(context, this.#rows, {...plan, colour: plan.ink, scale: 2 * plan.scale }, places);
     return { frame: canvas.transferToImageBitmap() };
   }
 }

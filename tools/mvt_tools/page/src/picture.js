@@ -1,10 +1,10 @@
 // The picture of a tile: the worker draws it, and the page moves what was drawn until the next frame comes.
-import { element } from './dom.js';
-import { foreignLine } from './foreign.js';
-import { Gestures } from './gestures.js';
-import { onTurned, paletteNow } from './palette.js';
-import { counted, grouped } from './text.js';
-import { ROUND, WHOLE, transformOf, viewOf, zoomed } from './view.js';
+import {element} from './dom.js';
+import {foreignLine} from './foreign.js';
+import {Gestures} from './gestures.js';
+import {onTurned, paletteNow} from './palette.js';
+import {counted, grouped} from './text.js';
+import {ROUND, WHOLE, transformOf, viewOf, zoomed} from './view.js';
 
 /** What is so near the pointer, in pixels, is found. */
 const REACH = 8;
@@ -31,31 +31,46 @@ export class Picture {
     this.#facts = facts;
     this.chosen = chosen;
     this.hidden = new Uint8Array(facts.layers);
-    const told = `The tile’s picture: ${counted(facts.layers, 'layer')}, ${counted(facts.features, 'feature')}, ${counted(facts.points, 'position')}.`;
+    const told = `The tile’s picture: ${counted(facts.layers, 'layer')}, ${counted(facts.features, 'feature')}, ${
+      counted(facts.points, 'position')}.`;
     this.base = element('canvas', { class: 'base', role: 'img', 'aria-label': told });
     this.marks = element('canvas', { class: 'marks', 'aria-hidden': 'true' });
     this.tip = element('div', { class: 'tip', 'aria-hidden': 'true', hidden: true });
     this.state = element('span', { class: 'state', role: 'status' });
-    this.stop = element('button', { type: 'button', hidden: true, onclick: () => client.ask('stopDrawing') }, ['Stop drawing']);
-    this.paper = element('div', { class: 'paper', tabindex: '0', role: 'group', 'aria-label': 'Picture. Arrow keys move it, plus and minus zoom, 0 shows the whole tile.' }, [this.base, this.marks, this.tip]);
+    this.stop =
+      element('button', { type: 'button', hidden: true, onclick: () => client.ask('stopDrawing') }, ['Stop drawing']);
+    this.paper = element(
+      'div', {
+        class: 'paper',
+        tabindex: '0',
+        role: 'group',
+        'aria-label': 'Picture. Arrow keys move it, plus and minus zoom, 0 shows the whole tile.'
+      },
+      [this.base, this.marks, this.tip]);
     this.beyond = element('input', { type: 'checkbox', onchange: () => this.whole() });
     this.root = element('div', { class: 'sheet' }, [this.paper, this.#tools()]);
     new Gestures(this.paper, {
-      view: () => this.#view, go: (view) => this.go(view), whole: () => this.whole(),
-      click: (x, y) => this.#click(x, y), hover: (x, y) => this.#hover(x, y), leave: () => this.#leave(),
+      view: () => this.#view,
+      go: (view) => this.go(view),
+      whole: () => this.whole(),
+      click: (x, y) => this.#click(x, y),
+      hover: (x, y) => this.#hover(x, y),
+      leave: () => this.#leave(),
     });
     new ResizeObserver(() => this.#resized()).observe(this.paper);
     onTurned(() => this.paper.isConnected && this.redraw());
   }
 
   #tools() {
-    const tool = (title, name, act) => element('button', { type: 'button', class: 'tool', 'aria-label': name, title: name, onclick: act }, [title]);
+    const tool = (title, name, act) =>
+      element('button', { type: 'button', class: 'tool', 'aria-label': name, title: name, onclick: act }, [title]);
     return element('div', { class: 'buttons tools' }, [
       tool('+', 'Zoom in', () => this.go(zoomed(this.#view, 2))),
       tool('−', 'Zoom out', () => this.go(zoomed(this.#view, 0.5))),
       tool('Whole tile', 'Show the whole tile', () => this.whole()),
       element('label', {}, [this.beyond, ' what lies beyond the edge']),
-      this.stop, this.state,
+      this.stop,
+      this.state,
     ]);
   }
 
@@ -100,8 +115,16 @@ export class Picture {
   #plan() {
     const { layers, edge, ink, paper } = paletteNow();
     return {
-      view: this.#view, width: this.#width, scale: this.#width / Math.max(1, this.paper.clientWidth), hidden: this.hidden,
-      palette: layers, chosen: this.chosenColours, isCut: !this.beyond.checked, edge, ink, paper,
+      view: this.#view,
+      width: this.#width,
+      scale: this.#width / Math.max(1, this.paper.clientWidth),
+      hidden: this.hidden,
+      palette: layers,
+      chosen: this.chosenColours,
+      isCut: !this.beyond.checked,
+      edge,
+      ink,
+      paper,
     };
   }
 
@@ -178,7 +201,9 @@ export class Picture {
   async #hover(x, y) {
     if (this.#isHovering) return;
     this.#isHovering = true;
-    const { count, features } = await this.#near(x, y).finally(() => { this.#isHovering = false; });
+    const { count, features } = await this.#near(x, y).finally(() => {
+      this.#isHovering = false;
+    });
     this.paper.classList.toggle('near', count > 0);
     this.tip.hidden = count === 0;
     const lines = features.slice(0, TIPS).map((feature) => element('div', {}, tipOf(feature)));
@@ -194,10 +219,12 @@ export class Picture {
 }
 
 /** A feature in a few words: its layer, and what tells it from others. */
-export function tipOf({ layerName, index, id, shape, first }) {
+export function tipOf({layerName, index, id, shape, first}) {
   const name = layerName === '' ? '(no name)' : layerName;
   return [
-    element('b', {}, [foreignLine(name, 40)]), ` ${shape} ${grouped(index)}`, id === null ? '' : `, id ${id}`,
+    element('b', {}, [foreignLine(name, 40)]),
+    ` ${shape} ${grouped(index)}`,
+    id === null ? '' : `, id ${id}`,
     ...(first === null ? [] : [', ', foreignLine(first.key, 24), ' ', foreignLine(first.text, 40)]),
   ];
 }

@@ -1,29 +1,38 @@
 // What is shown of a tile that is refused: the fault in words, its place, and the bytes there.
-import { element } from './dom.js';
-import { foreign } from './foreign.js';
-import { HexView } from './hex.js';
-import { shapeOf } from './shape.js';
-import { grouped } from './text.js';
-import { faultLine, sayHolders, sayMeaning, sayPlace } from './words.js';
+import {element} from './dom.js';
+import {foreign} from './foreign.js';
+import {HexView} from './hex.js';
+import {shapeOf} from './shape.js';
+import {grouped} from './text.js';
+import {faultLine, sayHolders, sayMeaning, sayPlace} from './words.js';
 
 /** The parts of the page about a fault. */
-export function showFault(bytes, { fault, other }, { place, shape }, rules) {
+export function showFault(bytes, {fault, other}, {place, shape}, rules) {
   const rule = rules[fault.cause];
   const holders = sayHolders(fault, place);
   return [
-    element('section', { class: 'fault', 'aria-label': 'The fault' }, [
-      other?.sentence.startsWith(place.sentence) ? '' : element('p', { class: 'sentence' }, [other ? 'The library says: ' : '', place.sentence]),
-      holders.length === 0 ? '' : element('p', { class: 'trail' }, holders),
-      element('p', {}, [sayPlace(place)]),
-      element('div', { class: 'about-fault' }, [
-        place.integers === null ? '' : showIntegers(place.integers),
-        shape === null ? '' : shapeOf(shape),
+    element(
+      'section', { class: 'fault', 'aria-label': 'The fault' },
+      [
+        other?.sentence.startsWith(place.sentence) ?
+          '' :
+          element('p', { class: 'sentence' }, [other ? 'The library says: ' : '', place.sentence]),
+        holders.length === 0 ? '' : element('p', { class: 'trail' }, holders),
+        element('p', {}, [sayPlace(place)]),
+        element(
+          'div', { class: 'about-fault' },
+          [
+            place.integers === null ? '' : showIntegers(place.integers),
+            shape === null ? '' : shapeOf(shape),
+          ]),
+        element(
+          'p', { class: 'quiet' },
+          [
+            `Rule ${fault.cause}, ${fault.name}. It is broken where ${rule.rule}. Its place is: ${
+              rule.place}. The command mvt says: `,
+            element('code', {}, [faultLine(fault)]),
+          ]),
       ]),
-      element('p', { class: 'quiet' }, [
-        `Rule ${fault.cause}, ${fault.name}. It is broken where ${rule.rule}. Its place is: ${rule.place}. The command mvt says: `,
-        element('code', {}, [faultLine(fault)]),
-      ]),
-    ]),
     element('h3', {}, ['Bytes']),
     new HexView(bytes, place).root,
   ];
@@ -40,7 +49,8 @@ function showIntegers(integers) {
       element('td', {}, [sayMeaning(row, integers), ...(row.key === null ? [] : [' “', foreign(row.key, 60), '”'])]),
     ]);
   });
-  const heads = ['index', list === 'tags' ? 'tag' : 'integer', 'meaning'].map((head) => element('th', { scope: 'col' }, [head]));
+  const heads =
+    ['index', list === 'tags' ? 'tag' : 'integer', 'meaning'].map((head) => element('th', { scope: 'col' }, [head]));
   return element('table', { class: 'integers' }, [
     element('caption', {}, [`The ${list} round the fault`]),
     element('thead', {}, [element('tr', {}, heads)]),

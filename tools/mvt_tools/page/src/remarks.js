@@ -1,22 +1,39 @@
 // What `mvt check` notes of a tile and what `mvt lint` finds, by kind: the library's rows, read where they lie.
-import { FINDING, FINDING_ROW, NOTE, NOTE_ROW } from './layout.js';
+import {FINDING, FINDING_ROW, NOTE, NOTE_ROW} from './layout.js';
 
 /** What each kind speaks of, in the order of the program's lines. */
 const OF_FEATURE = ['layer', 'feature'];
 const OF_NOTES = {
-  word: 'note', numbers: NOTE, row: NOTE_ROW, of: {
-    NoLayers: [], Foreign: ['layer', 'version'], NoFeatures: ['layer'], RepeatedId: [...OF_FEATURE, 'earlier'],
-    FlatRing: [...OF_FEATURE, 'ring'], ClosedTwice: [...OF_FEATURE, 'ring'],
+  word: 'note',
+  numbers: NOTE,
+  row: NOTE_ROW,
+  of: {
+    NoLayers: [],
+    Foreign: ['layer', 'version'],
+    NoFeatures: ['layer'],
+    RepeatedId: [...OF_FEATURE, 'earlier'],
+    FlatRing: [...OF_FEATURE, 'ring'],
+    ClosedTwice: [...OF_FEATURE, 'ring'],
   },
 };
 const OF_FINDINGS = {
-  word: 'lint', numbers: FINDING, row: FINDING_ROW, of: {
-    ZeroExtent: ['layer'], NoGeometry: OF_FEATURE, UnknownGeometry: OF_FEATURE, FarPoint: [...OF_FEATURE, 'x', 'y'], LargeId: OF_FEATURE,
+  word: 'lint',
+  numbers: FINDING,
+  row: FINDING_ROW,
+  of: {
+    ZeroExtent: ['layer'],
+    NoGeometry: OF_FEATURE,
+    UnknownGeometry: OF_FEATURE,
+    FarPoint: [...OF_FEATURE, 'x', 'y'],
+    LargeId: OF_FEATURE,
     LargeNumber: [...OF_FEATURE, 'attribute'],
   },
 };
 /** How the program's lines name what stands in a row by another name. */
-const SPELLED = { x: 'position ', y: '' };
+const SPELLED = {
+  x: 'position ',
+  y: ''
+};
 
 /** Where the counts of a survey lie, which have 64 bits each, and where its notes begin. */
 const FEATURES_AT = 8;
@@ -65,7 +82,10 @@ export class Survey extends Remarks {
   constructor(bytes) {
     super(OF_NOTES, bytes.subarray(NOTES_AT));
     const view = new DataView(bytes.buffer, bytes.byteOffset, NOTES_AT);
-    this.counts = { layers: Number(view.getBigUint64(0, true)), features: Number(view.getBigUint64(FEATURES_AT, true)) };
+    this.counts = {
+      layers: Number(view.getBigUint64(0, true)),
+      features: Number(view.getBigUint64(FEATURES_AT, true))
+    };
     this.isCanonical = view.getBigUint64(CANONICAL_AT, true) === 1n;
   }
 

@@ -1,12 +1,15 @@
 // The rows of a tile (library/c/mvt.h), read where they lie in the library's memory. Spans are read by their lower 32 bits:
 // no list of a tile of 64 MiB is longer.
-import { floatText } from './floats.js';
-import { FEATURE_ROW, KIND, LAYER_ROW, PART_ROW, POINT_ROW, SPAN_ROW, VALUE_KIND, VALUE_ROW } from './layout.js';
-import { text } from './text.js';
+import {floatText} from './floats.js';
+import {FEATURE_ROW, KIND, LAYER_ROW, PART_ROW, POINT_ROW, SPAN_ROW, VALUE_KIND, VALUE_ROW} from './layout.js';
+import {text} from './text.js';
 
-export const { UNKNOWN, POINTS, LINES, POLYGONS } = KIND;
+export const {UNKNOWN, POINTS, LINES, POLYGONS} = KIND;
 export const SHAPES = wordsOf(KIND);
-const VALUE_KINDS = { ...wordsOf(VALUE_KIND), [VALUE_KIND.TEXT]: 'string' };
+const VALUE_KINDS = {
+  ...wordsOf(VALUE_KIND),
+  [VALUE_KIND.TEXT]: 'string'
+};
 
 /** The names of numbers in small letters, each at its number. */
 function wordsOf(numbers) {
@@ -110,7 +113,8 @@ export class Rows {
   // A layer of another version has no features, and its span may begin at 0: the next one of version 2 tells.
   #nextStart(from) {
     for (let index = from; index < this.layerCount; index += 1) {
-      if (this.#versionOf(index) === 2) return this.layerWords[LAYER_ROW.words * index + LAYER_ROW.features + SPAN_ROW.start];
+      if (this.#versionOf(index) === 2)
+        return this.layerWords[LAYER_ROW.words * index + LAYER_ROW.features + SPAN_ROW.start];
     }
     return Infinity;
   }
@@ -145,7 +149,8 @@ export class Rows {
     const layer = this.layer(this.layerOf(place));
     const [first, end] = this.partsOf(place);
     let points = 0;
-    for (let part = first; part < end; part += 1) points += spanAt(this.partWords, PART_ROW.words * part + PART_ROW.points).len;
+    for (let part = first; part < end; part += 1)
+      points += spanAt(this.partWords, PART_ROW.words * part + PART_ROW.points).len;
     return {
       place,
       layer: layer.index,
@@ -165,9 +170,9 @@ export class Rows {
     const { start, len } = spanAt(this.featureWords, FEATURE_ROW.words * place + FEATURE_ROW.tags);
     const pairs = Math.min(most, len / 2);
     return Array.from({ length: pairs }, (_, pair) => ({
-      key: this.key(layer, this.tags[start + 2 * pair]),
-      ...this.value(layer.values.start + this.tags[start + 2 * pair + 1]),
-    }));
+                                           key: this.key(layer, this.tags[start + 2 * pair]),
+                                           ...this.value(layer.values.start + this.tags[start + 2 * pair + 1]),
+                                         }));
   }
 
   /** Key by key, the index of the value in the layer; called with each pair of tags. */

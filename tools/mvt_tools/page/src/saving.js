@@ -1,8 +1,8 @@
 // Saves what the library makes of a tile, and tells where that can't be.
-import { NO_LAYER, OK, TOO_LARGE } from './codec.js';
-import { element, save } from './dom.js';
-import { stemOf } from './names.js';
-import { LIGHT } from './palette.js';
+import {NO_LAYER, OK, TOO_LARGE} from './codec.js';
+import {element, save} from './dom.js';
+import {stemOf} from './names.js';
+import {LIGHT} from './palette.js';
 
 const WHY = {
   [TOO_LARGE]: 'It would be more than 64 MiB.',
@@ -47,7 +47,8 @@ export class Saving {
 
   /** A button that saves a tile of the layers that are shown. */
   layers(picture) {
-    return this.#button('Save the layers shown', '.layers.mvt', TILE_TYPE, () => ({ what: 'extract', hidden: picture.hidden }));
+    return this.#button(
+      'Save the layers shown', '.layers.mvt', TILE_TYPE, () => ({ what: 'extract', hidden: picture.hidden }));
   }
 
   #button(title, ending, type, asked) {

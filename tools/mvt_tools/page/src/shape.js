@@ -1,10 +1,13 @@
 // The picture of a faulty feature: what was drawn before the fault, and where that lies.
-import { element } from './dom.js';
-import { onTurned, paletteNow } from './palette.js';
-import { counted, signed } from './text.js';
+import {element} from './dom.js';
+import {onTurned, paletteNow} from './palette.js';
+import {counted, signed} from './text.js';
 
 const SIDE = 320;
-const FAULT = { light: '#c21807', dark: '#ff8d7a' };
+const FAULT = {
+  light: '#c21807',
+  dark: '#ff8d7a'
+};
 /** Arrows show where to, where there are few steps. */
 const ARROWS = 60;
 /** How much of the colour a filled pixel has. */
@@ -13,8 +16,11 @@ const FILLED = 0.35;
 /** A figure of a shape (around.py), with words in front of those that it has. */
 export function shapeOf(shape, front = '') {
   const { count, mark } = shape;
-  const before = count === 0 ? 'It has no position before the fault.' : `The feature up to its fault: ${counted(count, 'position')}.`;
-  const what = mark === null ? `The feature, as far as it can be read: ${counted(count, 'position')}.` : `${before} The fault comes ${count === 0 ? 'at' : 'after'} (${mark.map(signed).join(', ')}), where the circle is.`;
+  const before = count === 0 ? 'It has no position before the fault.' :
+                               `The feature up to its fault: ${counted(count, 'position')}.`;
+  const what = mark === null ?
+    `The feature, as far as it can be read: ${counted(count, 'position')}.` :
+    `${before} The fault comes ${count === 0 ? 'at' : 'after'} (${mark.map(signed).join(', ')}), where the circle is.`;
   const told = `${front}${what}${isEdgeSeen(shape) ? ' The dashed line is the tile’s edge.' : ''}`;
   const canvas = element('canvas', { role: 'img', 'aria-label': told, width: SIDE * 2, height: SIDE * 2 });
   const draw = () => drawShape(canvas.getContext('2d'), shape);
@@ -24,7 +30,7 @@ export function shapeOf(shape, front = '') {
 }
 
 /** The square that shows all of a shape, and of one beyond the tile so much more that the tile’s edge is in it. */
-export function boxOfShape({ parts, mark, extent }) {
+export function boxOfShape({parts, mark, extent}) {
   const points = [...parts.flat(), ...(mark === null ? [] : [mark])];
   const [left, top, right, bottom] = boundsOf(points, extent, extent);
   const size = Math.max(right - left, bottom - top, extent / 512, 4) * 1.3;
@@ -33,7 +39,8 @@ export function boxOfShape({ parts, mark, extent }) {
 
 /** The left, top, right and bottom of points, the first two at most this wide and high, the others at least 0. */
 function boundsOf(points, width, height) {
-  return points.reduce(([l, t, r, b], [x, y]) => [Math.min(l, x), Math.min(t, y), Math.max(r, x), Math.max(b, y)], [width, height, 0, 0]);
+  return points.reduce(
+    ([l, t, r, b], [x, y]) => [Math.min(l, x), Math.min(t, y), Math.max(r, x), Math.max(b, y)], [width, height, 0, 0]);
 }
 
 /** Whether some of the tile’s edge lies in the square that is shown. */
@@ -55,7 +62,8 @@ function drawShape(context, shape) {
   context.strokeStyle = edge;
   context.strokeRect(left, top, right - left, bottom - top);
   context.setLineDash([]);
-  if (shape.kind === 3) fillPolygons(context, polygonsOf(shape.parts).map((rings) => rings.map((ring) => ring.map(at))), layers[0]);
+  if (shape.kind === 3)
+    fillPolygons(context, polygonsOf(shape.parts).map((rings) => rings.map((ring) => ring.map(at))), layers[0]);
   for (const part of shape.parts) drawPart(context, part.map(at), shape, layers[0]);
   if (shape.mark !== null) drawMark(context, at(shape.mark), ink === '#000000' ? FAULT.light : FAULT.dark);
 }
@@ -112,7 +120,8 @@ function fillWithHoles(context, sheet, [outer, ...holes]) {
   const { width, height } = sheet.canvas;
   const sides = boundsOf(outer, width, height);
   const [left, top] = sides.slice(0, 2).map((side) => Math.max(0, Math.floor(side) - 1));
-  const box = [left, top, Math.min(width, Math.ceil(sides[2]) + 1) - left, Math.min(height, Math.ceil(sides[3]) + 1) - top];
+  const box =
+    [left, top, Math.min(width, Math.ceil(sides[2]) + 1) - left, Math.min(height, Math.ceil(sides[3]) + 1) - top];
   if (box[2] <= 0 || box[3] <= 0) return;
   sheet.clearRect(...box);
   sheet.globalCompositeOperation = 'source-over';

@@ -12,7 +12,7 @@ const DUMP_LINE = /^([0-9a-f]{4,16})(:?)\s+((?:[0-9a-f]{2}){1,16}(?: +(?:[0-9a-f
 function dumped(bare) {
   const bytes = [];
   for (const line of bare.split(/\r?\n/)) {
-    if (/^([0-9a-f]{8,16}|\*)$/i.test(line.trim())) continue;    // the last line of hexdump is an offset
+    if (/^([0-9a-f]{8,16}|\*)$/i.test(line.trim())) continue;  // the last line of hexdump is an offset
     const read = DUMP_LINE.exec(line.trim());
     if (read === null || parseInt(read[1], 16) !== bytes.length) return null;
     const digits = dumpDigits(read[2] === ':' ? read[3].split('  ')[0] : read[3]);
@@ -27,12 +27,14 @@ function dumpDigits(text) {
 
 /** Numbers up to 255, as `[26, 3, 10]`, or `26 3 10` where a number has one digit or three. */
 function decimals(bare) {
-  const inner = bare.replace(/^(?:new )?(?:Uint8Array|Buffer|bytes)?(?:\(\d+\))?(?:\.of|\.from)?\s*[([{]+|[)\]}]+$/g, '').trim();
+  const inner =
+    bare.replace(/^(?:new )?(?:Uint8Array|Buffer|bytes)?(?:\(\d+\))?(?:\.of|\.from)?\s*[([{]+|[)\]}]+$/g, '').trim();
   const words = inner.split(/\s*,\s*|\s+/).filter((word) => word !== '');
   const areNumbers = words.length > 0 && words.every((word) => /^(?:0|[1-9]\d{0,2})$/.test(word) && Number(word) < 256);
   const isListed = inner !== bare || (words.length > 1 && inner.includes(','));
   const areUneven = words.length > 1 && words.some((word) => word.length !== 2);
-  return areNumbers && (isListed || areUneven) ? { bytes: Uint8Array.from(words, Number), as: 'decimal numbers' } : null;
+  return areNumbers && (isListed || areUneven) ? { bytes: Uint8Array.from(words, Number), as: 'decimal numbers' } :
+                                                 null;
 }
 
 function hexadecimal(bare) {

@@ -1,8 +1,8 @@
 // How questions and answers are spelled (tools/mvt_tools/page/calls.py and frames.py): numbers are little-endian.
-import { ROW_SIZES, STATUS } from './layout.js';
-import { text } from './text.js';
+import {ROW_SIZES, STATUS} from './layout.js';
+import {text} from './text.js';
 
-export const { REFUSED } = STATUS;
+export const {REFUSED} = STATUS;
 
 const COUNTS_AT = 8;
 const HEAD = 8;
@@ -28,7 +28,13 @@ function faultOf(block) {
     return value < 0 ? null : value;
   };
   const name = block.subarray(FAULT_HEAD, nameEnd(block));
-  return { layer: index(8), feature: index(16), at: Number(view.getBigUint64(24, true)), cause: view.getUint32(32, true), name: text(name) };
+  return {
+    layer: index(8),
+    feature: index(16),
+    at: Number(view.getBigUint64(24, true)),
+    cause: view.getUint32(32, true),
+    name: text(name)
+  };
 }
 
 const nameEnd = (block) => FAULT_HEAD + dataOf(block).getUint32(36, true);
@@ -51,7 +57,7 @@ function looksOf(block) {
  */
 export function explainedOf(block) {
   const answer = answerOf(block);
-  return answer.fault === undefined ? answer : { ...answer, place: locatedOf(block) };
+  return answer.fault === undefined ? answer : {...answer, place: locatedOf(block) };
 }
 
 function locatedOf(block) {
@@ -79,7 +85,7 @@ export function rowsOf(bytes) {
     at += Math.ceil((size * count) / 8) * 8;
     return list;
   });
-  return { ...Object.fromEntries(lists), memory: () => view };
+  return {...Object.fromEntries(lists), memory: () => view };
 }
 
 /** Several parts as one body. */

@@ -1,12 +1,12 @@
 // A store of tiles: its list, which comes some at a time as it is looked at, and the search for broken ones.
-import { element, folded } from './dom.js';
-import { foreign, foreignLine } from './foreign.js';
-import { StoreMap } from './map.js';
-import { beyondOf, placeOf, spelledPlace, verdictOfRow } from './stored.js';
-import { counted, grouped, size } from './text.js';
-import { lineOf } from './verdict.js';
-import { SIZES, VirtualRows } from './virtual.js';
-import { BRIEF } from './words.js';
+import {element, folded} from './dom.js';
+import {foreign, foreignLine} from './foreign.js';
+import {StoreMap} from './map.js';
+import {beyondOf, placeOf, spelledPlace, verdictOfRow} from './stored.js';
+import {counted, grouped, size} from './text.js';
+import {lineOf} from './verdict.js';
+import {SIZES, VirtualRows} from './virtual.js';
+import {BRIEF} from './words.js';
 
 /** So many tiles are asked for at a time. */
 const ASKED_TILES = 200;
@@ -36,16 +36,25 @@ export class StoreList {
     this.title = element('h2', { tabindex: '-1' }, [foreign(name), ` (${kind})`]);
     this.told = element('span', { class: 'quiet', role: 'status' });
     this.problem = element('span', { class: 'problem', role: 'alert' });
-    const heads = [['Tile'], ['Size', 'size'], ['Verdict']].map(([head, kindOf]) => element('th', { scope: 'col', class: kindOf ?? null }, [head]));
+    const heads = [['Tile'], ['Size', 'size'], ['Verdict']].map(
+      ([head, kindOf]) => element('th', { scope: 'col', class: kindOf ?? null }, [head]));
     this.table = new VirtualRows({
-      label: 'Tiles', heads, widths: ['9rem', SIZES, null], height: 13,
+      label: 'Tiles',
+      heads,
+      widths: ['9rem', SIZES, null],
+      height: 13,
       classOf: (row) => `${row.told.kind}${row === this.#openRow ? ' current' : ''}`,
       rowsOf: (from, end) => this.#some(from, end),
       cellsOf: (row) => this.#cells(row),
     });
-    this.map = new StoreMap(codec, this.#path, { open: (place) => hands.open(this.tileAt(place)), failed: hands.failed });
+    this.map =
+      new StoreMap(codec, this.#path, { open: (place) => hands.open(this.tileAt(place)), failed: hands.failed });
     const map = folded('Map of a zoom', () => this.#mapped());
-    this.root = element('div', { class: 'list store' }, [this.title, element('div', { class: 'buttons' }, [...this.#searching(), ...this.#placing(), this.told, this.problem]), map, this.table.root]);
+    this.root = element('div', { class: 'list store' }, [
+      this.title,
+      element('div', { class: 'buttons' }, [...this.#searching(), ...this.#placing(), this.told, this.problem]), map,
+      this.table.root
+    ]);
   }
 
   /** The map, at first of the zoom of the tile that is open, or of the first tile. */
@@ -58,8 +67,13 @@ export class StoreList {
   // ---- what can be done
 
   #searching() {
-    const options = [['', 'all tiles'], ['broken', 'broken tiles'], ...Object.entries(BRIEF).map(([cause, words]) => [cause, `${cause}: ${words}`])];
-    this.only = element('select', { 'aria-label': 'Which tiles' }, options.map(([value, words]) => element('option', { value }, [words])));
+    const options = [
+      ['', 'all tiles'], ['broken', 'broken tiles'],
+      ...Object.entries(BRIEF).map(([cause, words]) => [cause, `${cause}: ${words}`])
+    ];
+    this.only = element(
+      'select', { 'aria-label': 'Which tiles' },
+      options.map(([value, words]) => element('option', { value }, [words])));
     this.only.addEventListener('change', () => this.load());
     const first = element('button', { type: 'button', onclick: () => this.search('') }, ['First broken']);
     const next = element('button', { type: 'button', onclick: () => this.searchOn() }, ['Next broken']);
@@ -67,7 +81,13 @@ export class StoreList {
   }
 
   #placing() {
-    const input = element('input', { type: 'text', 'aria-label': 'A tile’s zoom, column and row', placeholder: 'z/x/y', size: '14', spellcheck: 'false' });
+    const input = element('input', {
+      type: 'text',
+      'aria-label': 'A tile’s zoom, column and row',
+      placeholder: 'z/x/y',
+      size: '14',
+      spellcheck: 'false'
+    });
     const form = element('form', {}, [input, element('button', {}, ['Go'])]);
     form.addEventListener('submit', (event) => {
       event.preventDefault();
@@ -87,7 +107,12 @@ export class StoreList {
 
   #tileOf({ key, z, x, y, name }) {
     const place = z === null ? null : { z, x, y };
-    return { key, name: name ?? spelledPlace(place), place, source: `${this.#path}/tile?key=${encodeURIComponent(key)}` };
+    return {
+      key,
+      name: name ?? spelledPlace(place),
+      place,
+      source: `${this.#path}/tile?key=${encodeURIComponent(key)}`
+    };
   }
 
   // ---- the list
@@ -134,7 +159,7 @@ export class StoreList {
       while (this.#next !== null && this.#rows.length === before) {
         const told = await this.#tiles(`count=${ASKED_TILES}&only=${this.only.value}&${this.#next}`);
         if (turn !== this.#turn) return;
-        const rows = told.tiles.map((row) => ({ ...row, told: verdictOfRow(row) }));
+        const rows = told.tiles.map((row) => ({...row, told: verdictOfRow(row) }));
         this.#rows.push(...rows);
         this.#openRow ??= this.#openAmong(rows);
         this.#next = told.next === null ? null : behind(told.next);
@@ -153,7 +178,8 @@ export class StoreList {
     this.#isLoading = isLoading;
     const turn = this.#nextTurn();
     const isNow = () => turn === this.#turn;
-    const timer = setTimeout(() => isNow() && this.#hands.busy(['Looking through the store …'], () => this.#stopped()), 200);
+    const timer =
+      setTimeout(() => isNow() && this.#hands.busy(['Looking through the store …'], () => this.#stopped()), 200);
     try {
       await does(turn);
     } catch (error) {
@@ -177,14 +203,22 @@ export class StoreList {
   #say() {
     const what = counted(this.#rows.length, this.only.value === '' ? 'tile' : 'broken tile');
     const where = this.#isAtStart ? '' : ' from here on';
-    this.told.textContent = this.#next === null ? `${what}${where}, which are all.` : `${what}${where} so far; scroll on for more.`;
+    this.told.textContent =
+      this.#next === null ? `${what}${where}, which are all.` : `${what}${where} so far; scroll on for more.`;
     this.table.resize(this.#rows.length, true);
   }
 
   #cells(row) {
     const tile = this.#tileOf(row);
     const line = [lineOf(row.told), beyondOf(tile.place)].filter(Boolean).join('; ');
-    const open = element('button', { type: 'button', class: 'link', 'aria-current': row === this.#openRow && 'true', onclick: () => this.#hands.open(tile) }, [foreignLine(tile.name, 200)]);
+    const open = element(
+      'button', {
+        type: 'button',
+        class: 'link',
+        'aria-current': row === this.#openRow && 'true',
+        onclick: () => this.#hands.open(tile)
+      },
+      [foreignLine(tile.name, 200)]);
     return [
       element('th', { scope: 'row' }, [open]),
       element('td', { class: 'size' }, [row.size === null ? '' : size(row.size)]),
@@ -203,7 +237,8 @@ export class StoreList {
   #openAmong(rows) {
     if (this.#open === null) return null;
     const { key, place } = this.#open;
-    const isOpen = key !== null ? (row) => row.key === key : ({ z, x, y }) => z === place.z && x === place.x && y === place.y;
+    const isOpen =
+      key !== null ? (row) => row.key === key : ({ z, x, y }) => z === place.z && x === place.x && y === place.y;
     return rows.find(isOpen) ?? null;
   }
 
@@ -227,7 +262,7 @@ export class StoreList {
     return this.#ask(false, async (turn) => {
       const only = this.only.value === '' ? 'broken' : this.only.value;
       let looked = 0;
-      for (let next = from; ;) {
+      for (let next = from;;) {
         const told = await this.#tiles(`count=1&only=${only}&${next}`);
         if (turn !== this.#turn) return;
         looked += told.looked;
@@ -245,8 +280,10 @@ export class StoreList {
   }
 
   #sayNone(from, looked) {
-    const what = this.only.value === '' || this.only.value === 'broken' ? 'is broken' : `breaks rule ${this.only.value}`;
-    this.told.textContent = `${from === '' ? 'None' : 'Behind the open tile none'} of ${counted(looked, 'tile')} ${what}.`;
+    const what =
+      this.only.value === '' || this.only.value === 'broken' ? 'is broken' : `breaks rule ${this.only.value}`;
+    this.told.textContent =
+      `${from === '' ? 'None' : 'Behind the open tile none'} of ${counted(looked, 'tile')} ${what}.`;
   }
 }
 

@@ -1,9 +1,11 @@
 // The tiles of a store: what is said of one, and which lie beside it.
 
 /** What the server says of a tile of a store, as a verdict of the page. */
-export function verdictOfRow({ verdict, cause, cause_name: name, layer, feature, place, notes, noted }) {
-  if (verdict === 'refused') return { kind: 'refused', fault: { layer, feature, at: place, cause, name }, notes: [], foreign: 0 };
-  if (verdict === 'not unpacked') return { kind: 'other', fault: null, other: { name: `it can’t be unpacked (${notes})` }, notes: [], foreign: 0 };
+export function verdictOfRow({verdict, cause, cause_name: name, layer, feature, place, notes, noted}) {
+  if (verdict === 'refused')
+    return { kind: 'refused', fault: { layer, feature, at: place, cause, name }, notes: [], foreign: 0 };
+  if (verdict === 'not unpacked')
+    return { kind: 'other', fault: null, other: { name: `it can’t be unpacked (${notes})` }, notes: [], foreign: 0 };
   if (verdict === 'unread') return { kind: 'unread', fault: null, why: notes, notes: [], foreign: 0 };
   const foreign = noted.find(({ kind }) => kind === 'Foreign')?.count ?? 0;
   return { kind: foreign > 0 ? 'partly' : 'accepted', fault: null, notes: noted, foreign };
@@ -15,7 +17,7 @@ export function placeOf(told) {
   return z <= 30 ? { z, x, y } : null;
 }
 
-export function spelledPlace({ z, x, y }) {
+export function spelledPlace({z, x, y}) {
   return `${z}/${x}/${y}`;
 }
 
@@ -27,15 +29,15 @@ export function beyondOf(place) {
 
 /** The ways from a tile to those beside, above and below it: their names, and the keys that go there. */
 export const WAYS = [
-  { name: 'West', sign: '←', key: 'Shift+ArrowLeft', to: ({ z, x, y }) => ({ z, x: (x + 2 ** z - 1) % 2 ** z, y }) },
-  { name: 'North', sign: '↑', key: 'Shift+ArrowUp', to: ({ z, x, y }) => ({ z, x, y: y - 1 }) },
-  { name: 'South', sign: '↓', key: 'Shift+ArrowDown', to: ({ z, x, y }) => ({ z, x, y: y + 1 }) },
-  { name: 'East', sign: '→', key: 'Shift+ArrowRight', to: ({ z, x, y }) => ({ z, x: (x + 1) % 2 ** z, y }) },
-  { name: 'Parent', sign: 'Parent', key: '0', to: ({ z, x, y }) => ({ z: z - 1, x: x >> 1, y: y >> 1 }) },
-  { name: 'Northwest child', sign: 'NW', key: '1', to: childAt(0, 0) },
-  { name: 'Northeast child', sign: 'NE', key: '2', to: childAt(1, 0) },
-  { name: 'Southwest child', sign: 'SW', key: '3', to: childAt(0, 1) },
-  { name: 'Southeast child', sign: 'SE', key: '4', to: childAt(1, 1) },
+  {name: 'West', sign: '←', key: 'Shift+ArrowLeft', to: ({z, x, y}) => ({z, x: (x + 2 ** z - 1) % 2 ** z, y})},
+  {name: 'North', sign: '↑', key: 'Shift+ArrowUp', to: ({z, x, y}) => ({z, x, y: y - 1})},
+  {name: 'South', sign: '↓', key: 'Shift+ArrowDown', to: ({z, x, y}) => ({z, x, y: y + 1})},
+  {name: 'East', sign: '→', key: 'Shift+ArrowRight', to: ({z, x, y}) => ({z, x: (x + 1) % 2 ** z, y})},
+  {name: 'Parent', sign: 'Parent', key: '0', to: ({z, x, y}) => ({z: z - 1, x: x >> 1, y: y >> 1})},
+  {name: 'Northwest child', sign: 'NW', key: '1', to: childAt(0, 0)},
+  {name: 'Northeast child', sign: 'NE', key: '2', to: childAt(1, 0)},
+  {name: 'Southwest child', sign: 'SW', key: '3', to: childAt(0, 1)},
+  {name: 'Southeast child', sign: 'SE', key: '4', to: childAt(1, 1)},
 ];
 
 function childAt(right, down) {
@@ -49,7 +51,7 @@ export function wayFrom(place, way) {
 }
 
 /** The way of a key that was pressed, by its name as in `WAYS`; undefined where it is none. */
-export function wayOfKey({ key, shiftKey, ctrlKey, altKey, metaKey }) {
+export function wayOfKey({key, shiftKey, ctrlKey, altKey, metaKey}) {
   if (ctrlKey || altKey || metaKey) return undefined;
   const pressed = `${shiftKey ? 'Shift+' : ''}${key}`;
   return WAYS.find((way) => way.key === pressed);

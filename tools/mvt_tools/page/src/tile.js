@@ -1,21 +1,22 @@
 // The part of the page about one tile.
-import { element, folded } from './dom.js';
-import { foreign, plain } from './foreign.js';
-import { HexView } from './hex.js';
-import { jsonView } from './json-view.js';
-import { Look } from './look.js';
-import { isCurable, mendingOf } from './mended.js';
-import { showFindings, showNotes } from './notes.js';
-import { showFault } from './refused.js';
-import { placeIn, stemOf } from './names.js';
-import { Saving } from './saving.js';
-import { counted, grouped, size, sizeWith } from './text.js';
-import { lineOf, titleOf } from './verdict.js';
-import { sayDifference } from './words.js';
+import {element, folded} from './dom.js';
+import {foreign, plain} from './foreign.js';
+import {HexView} from './hex.js';
+import {jsonView} from './json-view.js';
+import {Look} from './look.js';
+import {isCurable, mendingOf} from './mended.js';
+import {showFindings, showNotes} from './notes.js';
+import {showFault} from './refused.js';
+import {placeIn, stemOf} from './names.js';
+import {Saving} from './saving.js';
+import {counted, grouped, size, sizeWith} from './text.js';
+import {lineOf, titleOf} from './verdict.js';
+import {sayDifference} from './words.js';
 
 /** Of a tile up to so many bytes it is looked at once whether it can be mended. */
 const MOST_ASKED = 500_000;
-const CANONICAL = 'A tile may be spelled in many ways: fields in another order, numbers with more bytes than they need, keys that no feature has. The canonical form is one of them, the same for equal tiles, and never needed to draw them. “Save canonical bytes” writes it.';
+const CANONICAL =
+  'A tile may be spelled in many ways: fields in another order, numbers with more bytes than they need, keys that no feature has. The canonical form is one of them, the same for equal tiles, and never needed to draw them. “Save canonical bytes” writes it.';
 
 /**
  * Shows a tile that the worker has open; `ways` lead back to a list, `place` is where it is in a store, and `data` are the rules
@@ -84,8 +85,12 @@ export class TileView {
     const saving = new Saving(this.#client, this.#name, this.#placed);
     if (why === null) this.look = new Look(this.#client, facts, (picture) => saving.layers(picture));
     const looking = this.look?.root ?? element('p', { class: 'quiet' }, [`There is no picture: ${why}.`]);
-    const buttons = element('div', { class: 'buttons' }, [saving.canonical, saving.picture(() => this.look?.picture), saving.json, saving.geojson, saving.told]);
-    this.rest.append(this.#facts(), canonical, about, notes, looking, buttons, folded('JSON', () => jsonView(this.#client)), this.#bytes());
+    const buttons = element(
+      'div', { class: 'buttons' },
+      [saving.canonical, saving.picture(() => this.look?.picture), saving.json, saving.geojson, saving.told]);
+    this.rest.append(
+      this.#facts(), canonical, about, notes, looking, buttons, folded('JSON', () => jsonView(this.#client)),
+      this.#bytes());
     if (!document.hidden) await this.look?.picture.drawn;
     notes.append(this.#notes(await this.#client.ask('report')));
     notes.append(this.#findings(await this.#client.ask('lint')));
@@ -96,7 +101,9 @@ export class TileView {
   #facts() {
     const { length, size: own, note, facts: { layers, features, points } } = this.#opened;
     const positions = points === undefined ? '' : `, ${counted(points, 'position')}`;
-    return element('p', { class: 'facts' }, [`${sizeWith(own, length, note)}, ${counted(layers, 'layer')}, ${counted(features, 'feature')}${positions}.`]);
+    return element(
+      'p', { class: 'facts' },
+      [`${sizeWith(own, length, note)}, ${counted(layers, 'layer')}, ${counted(features, 'feature')}${positions}.`]);
   }
 
   #notes({ notes, why }) {
@@ -106,13 +113,16 @@ export class TileView {
   }
 
   #findings(kinds) {
-    if (kinds === null) return element('p', { class: 'quiet' }, ['Whether viewers stumble over it isn’t known: there is no memory for it.']);
+    if (kinds === null)
+      return element(
+        'p', { class: 'quiet' }, ['Whether viewers stumble over it isn’t known: there is no memory for it.']);
     return kinds.length === 0 ? '' : showFindings(this.#client, kinds, this.#data.findings ?? {}, this.#jump);
   }
 
   #sayCanonical(box, { isSame, length, difference, status }) {
     if (isSame) box.textContent = 'In canonical form.';
-    else if (status !== undefined) box.textContent = 'Not in canonical form, which would be more than 64 MiB or more than the memory there is.';
+    else if (status !== undefined)
+      box.textContent = 'Not in canonical form, which would be more than 64 MiB or more than the memory there is.';
     else {
       const first = difference === null ? '' : ` First difference, at byte ${sayDifference(difference)}`;
       const long = length === this.#opened.length ? 'is as long' : `has ${size(length)}`;

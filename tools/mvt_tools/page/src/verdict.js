@@ -1,9 +1,9 @@
 // Verdicts in words: for a list, for a heading, and to be spoken.
-import { counted, grouped } from './text.js';
-import { BRIEF, faultLine } from './words.js';
+import {counted, grouped} from './text.js';
+import {BRIEF, faultLine} from './words.js';
 
 /** What a verdict is counted under. */
-export function groupOf({ kind, fault, other, notes }) {
+export function groupOf({kind, fault, other, notes}) {
   if (kind === 'refused') return `refused ${fault.cause}`;
   if (kind === 'other') return `other ${other.name}`;
   if (kind === 'accepted' && notes.length > 0) return 'accepted noted';
@@ -39,13 +39,14 @@ export function lineOf(verdict) {
 }
 
 /** The heading of a tile's verdict. `layers` is how many it has. */
-export function titleOf({ kind, other, foreign, why }, layers) {
+export function titleOf({kind, other, foreign, why}, layers) {
   switch (kind) {
     case 'accepted':
       return 'Accepted: it keeps every rule';
     case 'partly':
-      return layers === foreign && foreign === 1 ? 'Accepted, but its layer wasn’t looked into: its version isn’t 2'
-        : `Accepted, but ${grouped(foreign)} of ${counted(layers, 'layer')} weren’t looked into: their version isn’t 2`;
+      return layers === foreign && foreign === 1 ?
+        'Accepted, but its layer wasn’t looked into: its version isn’t 2' :
+        `Accepted, but ${grouped(foreign)} of ${counted(layers, 'layer')} weren’t looked into: their version isn’t 2`;
     case 'refused':
       return 'Refused: it breaks a rule';
     case 'other':

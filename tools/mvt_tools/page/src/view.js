@@ -1,9 +1,17 @@
 // What part of the tile the picture shows. The tile is the square from 0 to 1; a view is `{x, y, size}`: the corner and the
 // side of the square that is shown.
 
-export const WHOLE = { x: 0, y: 0, size: 1 };
+export const WHOLE = {
+  x: 0,
+  y: 0,
+  size: 1
+};
 /** The tile with what lies round it. */
-export const ROUND = { x: -0.125, y: -0.125, size: 1.25 };
+export const ROUND = {
+  x: -0.125,
+  y: -0.125,
+  size: 1.25
+};
 
 const LEAST = 1 / 16_384;
 const MOST = 16;
@@ -17,7 +25,7 @@ export function zoomed(view, factor, px = 0.5, py = 0.5) {
 
 /** A view moved by parts of its side. */
 export function moved(view, dx, dy) {
-  return bounded({ ...view, x: view.x + dx * view.size, y: view.y + dy * view.size });
+  return bounded({...view, x: view.x + dx * view.size, y: view.y + dy * view.size });
 }
 
 // The middle of what is shown stays near the tile.

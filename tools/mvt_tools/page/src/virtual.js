@@ -1,5 +1,5 @@
 // A table of any length of which only the rows in view are made. All rows are of one height.
-import { element } from './dom.js';
+import {element} from './dom.js';
 
 /** A row's height, in letters of the page. */
 const ROW = 2.25;
@@ -31,7 +31,10 @@ export class VirtualRows {
       element('thead', {}, [element('tr', { 'aria-rowindex': 1 }, heads)]),
       this.body,
     ]);
-    this.root = element('div', { class: 'rows', tabindex: '0', role: 'region', 'aria-label': label, onkeydown: (event) => this.#press(event) }, [this.table]);
+    this.root = element(
+      'div',
+      { class: 'rows', tabindex: '0', role: 'region', 'aria-label': label, onkeydown: (event) => this.#press(event) },
+      [this.table]);
     this.root.style.setProperty('--row', `${this.rowHeight}px`);
     this.root.style.maxHeight = `${height * ROW}rem`;
     this.root.addEventListener('scroll', () => this.#fill(), { passive: true });
@@ -65,7 +68,8 @@ export class VirtualRows {
 
   #inView() {
     const rows = Math.ceil((this.root.clientHeight || 10 * this.rowHeight) / this.rowHeight) + 1;
-    const first = Math.min(Math.floor((this.root.scrollTop * this.#pace) / this.rowHeight), Math.max(0, this.#count - rows + 1));
+    const first =
+      Math.min(Math.floor((this.root.scrollTop * this.#pace) / this.rowHeight), Math.max(0, this.#count - rows + 1));
     return { first, last: Math.min(this.#count, first + rows) };
   }
 
@@ -84,11 +88,13 @@ export class VirtualRows {
 
   #put(from, end, shown) {
     const held = this.#heldRow();
-    const rows = shown.map((each, place) =>
-      element('tr', { class: this.classOf(each), 'aria-rowindex': from + place + 2 }, this.cellsOf(each, from + place)));
+    const rows = shown.map(
+      (each, place) => element(
+        'tr', { class: this.classOf(each), 'aria-rowindex': from + place + 2 }, this.cellsOf(each, from + place)));
     const total = Math.min(this.#height, HIGHEST);
-    const above = this.#pace === 1 ? from * this.rowHeight
-      : Math.max(0, Math.min(this.root.scrollTop - BEYOND * this.rowHeight, total - (end - from) * this.rowHeight));
+    const above = this.#pace === 1 ?
+      from * this.rowHeight :
+      Math.max(0, Math.min(this.root.scrollTop - BEYOND * this.rowHeight, total - (end - from) * this.rowHeight));
     const below = Math.max(0, total - above - (end - from) * this.rowHeight);
     this.body.replaceChildren(gap(above), ...rows, gap(below));
     this.#made = { from, end };

@@ -1,7 +1,7 @@
 // Faults in few words, and their places. The causes and their numbers are those of docs/FORMAT.md; the sentences come from
 // the library.
-import { foreign } from './foreign.js';
-import { counted, grouped, offsetText, signed } from './text.js';
+import {foreign} from './foreign.js';
+import {counted, grouped, offsetText, signed} from './text.js';
 
 /** Each cause in a few words, for lists. */
 export const BRIEF = {
@@ -38,9 +38,10 @@ export function faultLine(fault) {
 }
 
 /** What is marked, in words: which bytes, and which integer and its value. */
-export function sayPlace({ start, end, integers }) {
-  const range = end - start > 1 ? `Marked: bytes ${offsetText(start)} to ${offsetText(end - 1)}`
-    : end > start ? `Marked: byte ${offsetText(start)}` : `The place is before byte ${offsetText(start)}`;
+export function sayPlace({start, end, integers}) {
+  const range = end - start > 1 ? `Marked: bytes ${offsetText(start)} to ${offsetText(end - 1)}` :
+    end > start ? `Marked: byte ${offsetText(start)}` :
+                  `The place is before byte ${offsetText(start)}`;
   if (integers === null) return `${range}.`;
   const { list, index, count, value } = integers;
   const noun = list === 'tags' ? 'tag' : 'integer';
@@ -49,7 +50,7 @@ export function sayPlace({ start, end, integers }) {
 }
 
 /** What an integer means: of tags whose index it is, of a geometry what it draws; nothing behind the fault. */
-export function sayMeaning({ index, value, step }, { list, keys }) {
+export function sayMeaning({index, value, step}, {list, keys}) {
   if (list === 'geometry') return step === null ? '' : sayStep(value, step);
   if (index % 2 === 1) return 'index of a value';
   return value < keys ? 'index of a key:' : `index of a key; there are ${keys}`;
@@ -62,7 +63,7 @@ function sayStep(value, { command, axis, move, to }) {
 }
 
 /** The layer and the feature of a fault, by name and id where they have such; nothing where it is in no layer. */
-export function sayHolders({ layer, feature }, { layerName, featureId }) {
+export function sayHolders({layer, feature}, {layerName, featureId}) {
   if (layer === null) return [];
   const name = layerName === null ? [] : [' “', foreign(layerName, 60), '”'];
   const id = featureId === null ? '' : `, id ${featureId}`;
@@ -70,7 +71,7 @@ export function sayHolders({ layer, feature }, { layerName, featureId }) {
 }
 
 /** Where a tile differs from its canonical form, and what differs. */
-export function sayDifference({ at, trail, said }) {
+export function sayDifference({at, trail, said}) {
   const where = trail.map(sayTrail).join(' › ');
   return `${grouped(at)}${where === '' ? '' : ` (${where})`}: ${said}`;
 }

@@ -1,6 +1,6 @@
 // The worker: answers what the page asks, one message for each question, and perhaps others before it.
-import { Codec } from './codec.js';
-import { Desk } from './desk.js';
+import {Codec} from './codec.js';
+import {Desk} from './desk.js';
 
 let desk = null;
 
