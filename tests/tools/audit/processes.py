@@ -5,16 +5,21 @@ import time
 from pathlib import Path
 
 
+def there():
+    """Each process that is there, and what its stat says behind its name. One may end while it is looked at."""
+    for name in filter(str.isdigit, os.listdir("/proc")):
+        try:
+            yield int(name), Path("/proc", name, "stat").read_text().rpartition(")")[2].split()
+        except OSError:
+            continue
+
+
 def below(pid):
     """The processes that one began, and those that these began."""
     parents = {}
-    for stat in Path("/proc").glob("[0-9]*/stat"):
-        try:
-            fields = stat.read_text().rpartition(")")[2].split()
-        except OSError:
-            continue
+    for process, fields in there():
         if fields[0] != "Z":
-            parents.setdefault(int(fields[1]), []).append(int(stat.parent.name))
+            parents.setdefault(int(fields[1]), []).append(process)
     found = list(parents.get(pid, []))
     for each in found:
         found += parents.get(each, [])
@@ -24,27 +29,18 @@ def below(pid):
 def sockets(pid):
     """The sockets that a process has open."""
     found = []
-    for link in Path(f"/proc/{pid}/fd").glob("*"):
+    folder = f"/proc/{pid}/fd"
+    for name in os.listdir(folder) if os.path.isdir(folder) else ():
         try:
-            name = os.readlink(link)
+            found.append(os.readlink(f"{folder}/{name}"))
         except OSError:
             continue
-        if name.startswith("socket:"):
-            found.append(name)
-    return found
+    return [name for name in found if name.startswith("socket:")]
 
 
 def of_session(session):
     """The processes of a session that haven't ended."""
-    found = []
-    for stat in Path("/proc").glob("[0-9]*/stat"):
-        try:
-            fields = stat.read_text().rpartition(")")[2].split()
-        except OSError:
-            continue
-        if int(fields[3]) == session and fields[0] != "Z":
-            found.append(int(stat.parent.name))
-    return found
+    return [process for process, fields in there() if int(fields[3]) == session and fields[0] != "Z"]
 
 
 def until(said, seconds=60):
