@@ -1,13 +1,10 @@
 -- What the builder is given, which the judge has accepted.
-use Rattle.std.specs.Prelude.{◌≡◌, ℕ, ℤ, ◌+◌, ◌*◌, ◌^◌, ◌<◌, ◌≤◌, List, [], ◌∷◌, ◌++◌, length}
-use Rattle.std.specs.Int.RustNames.{unsigned_abs}
+use Rattle.std.specs.Prelude.{◌≡◌, ℕ, ◌<◌, List, [], ◌∷◌, ◌++◌, length}
 use Rattle.std.specs.List.{AllByRecursion}
 use Rattle.mvt_geometry.specs.declared.shape.Point.{Point}
 use Rattle.mvt_geometry.specs.Shape.{IsPlace, origin}
 use Rattle.mvt_geometry.specs.Valid.{IsStroke}
 use Rattle.mvt_geometry.specs.Drawing.{stroke, strokes}
-use Rattle.mvt_geometry.specs.Commands.{Pair, pairs_of, moved, positions}
-use Rattle.mvt_geometry.specs.Inner.Judging.{edges}
 
 -- positions that fit in their range
 abbrev pub ArePlaces : List Point → Type 0

@@ -1,4 +1,4 @@
-use Rattle.std.proofs.Common.{rules, ◌≡◌, ◌++◌, [], ◌∷◌, length, map, refl, sym, subst}
+use Rattle.std.proofs.Common.{rules, ◌≡◌, ◌++◌, [], ◌∷◌, map, refl, sym, subst}
 use Rattle.std.proofs.lemmas.List.{map-append}
 use Rattle.mvt_geometry.specs.declared.shape.Geometry.TheVariants.{Lines}
 use Rattle.mvt_geometry.specs.Drawing.{drawn}

@@ -1,4 +1,4 @@
-use Rattle.std.proofs.Common.{List, [], length, map}
+use Rattle.std.proofs.Common.{List, [], map}
 use Rattle.mvt_geometry.specs.declared.shape.Point.{Point}
 use Rattle.mvt_geometry.specs.Visiting.{plain}
 use Rattle.mvt_geometry.specs.Inner.Telling.{AreInFront}

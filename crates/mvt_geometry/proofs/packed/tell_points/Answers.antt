@@ -1,4 +1,4 @@
-use Rattle.std.proofs.Common.{rules, arith, ◌≡◌, ◌<◌, [], length, refl, sym}
+use Rattle.std.proofs.Common.{rules, arith, ◌≡◌, ◌<◌, [], refl, sym}
 use Rattle.mvt_geometry.specs.declared.shape.Geometry.TheVariants.{Points}
 use Rattle.mvt_geometry.specs.Drawing.{drawn}
 use Rattle.mvt_geometry.specs.Visiting.{plain}

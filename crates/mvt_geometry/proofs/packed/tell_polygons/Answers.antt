@@ -1,4 +1,4 @@
-use Rattle.std.proofs.Common.{rules, ◌≡◌, ◌||◌, ◌++◌, [], ◌∷◌, true, pos, ◌≤ℤ◌, length, refl, sym, ap, ap₂, subst, ◌∙◌, to_z, of_z}
+use Rattle.std.proofs.Common.{rules, ◌≡◌, ◌||◌, ◌++◌, [], ◌∷◌, true, pos, ◌≤ℤ◌, refl, sym, ap, ap₂, subst, ◌∙◌, to_z, of_z}
 use Rattle.std.specs.Int.{w128}
 use Rattle.std.specs.Int.Signed.{lt_z}
 use Rattle.mvt_geometry.specs.declared.shape.Geometry.TheVariants.{Polygons}
