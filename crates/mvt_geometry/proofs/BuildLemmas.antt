@@ -8,7 +8,7 @@ use Rattle.mvt_geometry.specs.declared.shape.Polygon.{Polygon}
 use Rattle.mvt_geometry.specs.declared.shape.Geometry.{Geometry}
 use Rattle.mvt_geometry.specs.declared.shape.Geometry.TheVariants.{Unknown, Points, Lines, Polygons}
 use Rattle.mvt_geometry.specs.declared.shape.Kind.TheVariants as kinds
-use Rattle.mvt_geometry.specs.Shape.{IsPlace, origin, rings_of, last_of}
+use Rattle.mvt_geometry.specs.Shape.{origin, rings_of, last_of}
 use Rattle.mvt_geometry.specs.Valid.{IsStroke, Grouped}
 use Rattle.mvt_geometry.specs.Drawing.{path_from, Draws, strokes}
 use Rattle.mvt_geometry.specs.Commands.{pairs_of, stepped, moved, positions}
@@ -31,10 +31,6 @@ pub record IsPushed (before : List Point) (from : Point) (parameters : List ℕ)
   pub points_are : points ++ positions c (pairs_of rest) ≡ before ++ positions from (pairs_of parameters)
   pub end_is : moved c (pairs_of rest) ≡ moved from (pairs_of parameters)
   pub places : ArePlaces (positions c (pairs_of rest))
-
-pub next_place : (c : Point) (rest : List ℕ) → 2 ≤ length rest → ArePlaces (positions c (pairs_of rest))
-    → IsPlace (stepped c (first_pair rest))
-next_place c rest two places = (subst (λ ds. ArePlaces (positions c ds)) (pairs_front rest two) places).0
 
 pub pushes : {before : List Point} {from : Point} {parameters : List ℕ} {points : List Point} {c : Point} {rest : List ℕ}
     → IsPushed before from parameters points c rest → 2 ≤ length rest → (to : Point) → to ≡ stepped c (first_pair rest)

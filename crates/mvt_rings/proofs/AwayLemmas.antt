@@ -139,12 +139,6 @@ differ_if true false = refl
 differ_if false true = refl
 differ_if false false = refl
 
-pub says_next : (p : Spot) (c odd : Bool) (e : Edge) (edges : List Edge) → Says p c e
-    → lies_after 2 p (differ odd c) edges ≡ lies_after 2 p odd (e ∷ edges)
-says_next p c odd e edges says =
-    let on = says.on in
-    let crosses = says.crosses in rw (on, crosses) (ap (λ (b : Bool). lies_after 2 p b edges) (sym (differ_if odd c)))
-
 -- where the rows of an end of an edge are between those of two spots, and it is to the right of the box
 turns : Bounds → Spot → Spot → Point → Bool
 turns box p q v = lt_z box.right (v.x -ℤ pos 1) && differ (lt_z p.y (in_parts 2 v.y)) (lt_z q.y (in_parts 2 v.y))
